@@ -1,0 +1,5 @@
+pub mod Nodes
+pub mod Words
+pub mod Reading
+pub mod Tables
+pub mod Writing

@@ -1,0 +1,10 @@
+pub mod Numbers
+pub mod NumberLaws
+pub mod Splits
+pub mod Naming
+pub mod Locations
+pub mod Rows
+pub mod TextLaws
+pub mod FieldLaws
+pub mod Saying
+pub mod Writing

@@ -1,0 +1,5 @@
+pub mod Number
+pub mod Parts
+pub mod Words
+pub mod Fields
+pub mod Put
