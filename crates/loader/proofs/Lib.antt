@@ -1,3 +1,4 @@
 pub mod Ranges
 pub mod Flow
 pub mod Loading
+pub mod Answered

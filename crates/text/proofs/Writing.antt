@@ -7,14 +7,13 @@ use mathlib.Core.Logic.{_⊎_, inl, inr, ⊎-elim}
 use Rattle.std.proofs.shelf.Tests.{cases-lt, cond-true, cond-false, le-leb, lt-leb, leb-true, leb-false}
 use lib.ListN.{length, getD, take, drop, set}
 use borrow.Rule.Slice.PartMut.{putMid}
-use Rattle.std.proofs.shelf.Lists.{append-assoc, append-nil, take-at, drop-at, drop-all, drop-drop, drop-more, set-at, length-push, length-append, length-take-le, take-rest, take-append-drop, length-drop, take-more-set, drop-set-lt, at-drop-more, length-map}
+use Rattle.std.proofs.shelf.Lists.{append-assoc, append-nil, take-at, drop-at, drop-all, drop-drop, drop-more, set-at, length-push, length-append, length-take-le, take-rest, take-append-drop, length-drop, take-more, take-more-set, drop-set-lt, at-drop-more, length-map}
 use Rattle.std.proofs.shelf.Decimals.{decimal-digit, decimal-step, decimal-some}
 use Rattle.std.specs.Written.{decimal}
-use Rattle.text.specs.Put.{over, left-of}
+use Rattle.text.specs.Put.{over, added, left-of}
 use Rattle.text.specs.Parts.{ended}
 use Rattle.text.specs.declared.put.Piece.{Piece}
 use Rattle.text.specs.declared.put.Piece.the-variants.{Word}
-use Rattle.std.specs.Joined.{joined}
 use mathlib.Core.Bool.{Bool, true, false, cond}
 use lib.Dec.{leb}
 use Rattle.std.specs.declared.option.Option.{Option}
@@ -107,14 +106,7 @@ module _ {X : Type 0} (f : X → List ℕ) (xs : List X) (i : ℕ) (d : X) (h : 
       (λ (l : length xs ≤ i + 1). omega (arith, ap length (ended-last l), length-append (f (getD xs i d)) (10 ∷ ended (map f (drop (i + 1) xs)))))
       (cases-lt (i + 1) (length xs))
 
--- lines to write: the next one, and those after it
-module _ {X : Type 0} (f : X → List ℕ) (xs : List X) (i : ℕ) (d : X) (h : i < length xs) where
-  pub joined-step : joined f (drop i xs) ≡ f (getD xs i d) ++ joined f (drop (i + 1) xs)
-  joined-step = at-drop-more (joined f) xs i d h
-
-  pub joined-room : length (f (getD xs i d)) + length (joined f (drop (i + 1) xs)) ≡ length (joined f (drop i xs))
-  joined-room = sym (length-append (f (getD xs i d)) (joined f (drop (i + 1) xs))) ∙ ap length (sym joined-step)
-
+-- what is left of the room
 pub fits-some : (room n left : ℕ) → left + n ≡ room → Some left ≡ left-of room n
 fits-some room n left e = let same : left ≡ room - n = omega arith in ap Some same ∙ sym (cond-true _ _ _ (le-leb n room (omega arith)))
 
@@ -136,19 +128,12 @@ fits-not room n e = go (leb n room) refl
     go false t = leb-false n room t
 
 -- what a write to the front of the part after `at` leaves
-pub lent-is : (out : List ℕ) (at : ℕ) (bs part : List ℕ) → at ≤ length out → part ≡ over bs (take (length out - at) (drop at out)) → putMid at (length out - at) out part ≡ take at out ++ (bs ++ drop (at + length bs) out)
+pub lent-is : (out : List ℕ) (at : ℕ) (bs part : List ℕ) → at ≤ length out → part ≡ over bs (take (length out - at) (drop at out)) → putMid at (length out - at) out part ≡ added at bs out
 lent-is out at bs part h e =
     ap (λ p. take at out ++ (p ++ drop (length out - at) (drop at out))) (e ∙ ap (over bs) (take-rest out at))
     ∙ ap (λ p. take at out ++ (over bs (drop at out) ++ p)) (drop-all (length out - at) (drop at out) (simp length-drop (omega arith)))
     ∙ ap (λ p. take at out ++ p) (append-nil _)
     ∙ ap (λ p. take at out ++ (bs ++ p)) (drop-drop (length bs) at out)
-
-pub wrote-front : (p q was : List ℕ) → Wrote (p ++ q) was (over p was) (length p) q
-wrote-front p q was = record {
-  so-far = ap (λ o. o ++ q) (take-at p (drop (length p) was) (length p) refl);
-  count = sym (length-append p q);
-  rest = drop-at p (drop (length p) was) (length p) refl;
-}
 
 -- a part, and then what follows it
 pub fits-both : (room left a b : ℕ) → left + a ≡ room → left-of left b ≡ left-of room (a + b)
@@ -157,6 +142,63 @@ fits-both room left a b e = go (leb b left) refl
     go : (t : Bool) → leb b left ≡ t → left-of left b ≡ left-of room (a + b)
     go true t = cond-true _ _ _ t ∙ fits-some room (a + b) (left - b) (omega (arith, leb-true b left t))
     go false t = cond-false _ _ _ t ∙ fits-none room (a + b) (omega (arith, leb-false b left t))
+
+-- a part that does not fit, and what follows it
+pub fits-neither : (room a b : ℕ) → None ≡ left-of room a → None ≡ left-of room (a + b)
+fits-neither room a b e = fits-none room (a + b) (omega (arith, fits-not room a e))
+
+pub fits-then : (room a left b : ℕ) (r : Option ℕ) → Some left ≡ left-of room a → r ≡ left-of left b → r ≡ left-of room (a + b)
+fits-then room a left b r e q = q ∙ fits-both room left a b (fits-left room a left e)
+
+-- nothing is added
+pub added-none : (at : ℕ) (was : List ℕ) → was ≡ added at [] was
+added-none at was = let e : at ≡ at + 0 = omega arith in sym (take-append-drop at was) ∙ ap (λ k. take at was ++ drop k was) e
+
+-- a part is added, and then what follows it
+pub added-both : (at : ℕ) (a b was : List ℕ) → at + length a ≤ length was → added (at + length a) b (added at a was) ≡ added at (a ++ b) was
+added-both at a b was h =
+    let front : length (take at was ++ a) ≡ at + length a = length-append (take at was) a ∙ ap (λ k. k + length a) (length-take-le at was (omega arith)) in
+    let is : added at a was ≡ (take at was ++ a) ++ drop (at + length a) was = sym (append-assoc (take at was) a (drop (at + length a) was)) in
+    let more : length b + (at + length a) ≡ at + length (a ++ b) = omega (arith, length-append a b) in
+    ap (added (at + length a) b) is
+    ∙ (λ i. take-at (take at was ++ a) (drop (at + length a) was) (at + length a) front i ++ (b ++ drop (at + length a + length b) ((take at was ++ a) ++ drop (at + length a) was)))
+    ∙ ap (λ t. (take at was ++ a) ++ (b ++ t))
+    (sym (drop-drop (length b) (at + length a) ((take at was ++ a) ++ drop (at + length a) was)) ∙ ap (drop (length b)) (drop-at (take at was ++ a) (drop (at + length a) was) (at + length a) front)
+    ∙ drop-drop (length b) (at + length a) was ∙ ap (λ k. drop k was) (let e : at + length a + length b ≡ at + length (a ++ b) = omega (arith, length-append a b) in e))
+    ∙ append-assoc (take at was) a (b ++ drop (at + length (a ++ b)) was)
+    ∙ ap (λ t. take at was ++ t) (sym (append-assoc a b (drop (at + length (a ++ b)) was)))
+
+pub added-then : (at : ℕ) (a b was mid out : List ℕ) (next : ℕ) → at + length a ≤ length was → mid ≡ added at a was → next ≡ at + length a → out ≡ added next b mid → out ≡ added at (a ++ b) was
+added-then at a b was mid out next h first e second = second ∙ (λ i. added (e i) b (first i)) ∙ added-both at a b was h
+
+-- a way of writing a list of things, one after another
+pub record Joins {X : Type 0} (all : List X → List ℕ) (one : X → List ℕ) : Type 0 where
+  pub none : all [] ≡ []
+  pub more : (x : X) (xs : List X) → all (x ∷ xs) ≡ one x ++ all xs
+
+module _ {X : Type 0} {all : List X → List ℕ} {one : X → List ℕ} (j : Joins all one) where
+  pub joins-push : (xs : List X) (x : X) → all (xs ++ x ∷ []) ≡ all xs ++ one x
+  joins-push [] x = j .more x [] ∙ ap (λ t. one x ++ t) (j .none) ∙ append-nil (one x) ∙ ap (λ t. t ++ one x) (sym (j .none))
+  joins-push (y ∷ xs) x = j .more y (xs ++ x ∷ []) ∙ ap (λ t. one y ++ t) (joins-push xs x) ∙ sym (append-assoc (one y) (all xs) (one x)) ∙ ap (λ t. t ++ one x) (sym (j .more y xs))
+
+  joins-append : (ys zs : List X) → all (ys ++ zs) ≡ all ys ++ all zs
+  joins-append [] zs = ap (λ t. t ++ all zs) (sym (j .none))
+  joins-append (y ∷ ys) zs = j .more y (ys ++ zs) ∙ ap (λ t. one y ++ t) (joins-append ys zs) ∙ sym (append-assoc (one y) (all ys) (all zs)) ∙ ap (λ t. t ++ all zs) (sym (j .more y ys))
+
+  module _ (xs : List X) (i : ℕ) (d : X) (h : i < length xs) where
+    pub joins-step : all (take (i + 1) xs) ≡ all (take i xs) ++ one (getD xs i d)
+    joins-step = ap all (take-more xs i d h) ∙ joins-push (take i xs) (getD xs i d)
+
+    pub joins-length : length (all (take (i + 1) xs)) ≡ length (all (take i xs)) + length (one (getD xs i d))
+    joins-length = ap length joins-step ∙ length-append (all (take i xs)) (one (getD xs i d))
+
+    pub joins-room : length (all (take i xs)) + length (one (getD xs i d)) ≤ length (all xs)
+    joins-room =
+        let e : all xs ≡ all (take (i + 1) xs) ++ all (drop (i + 1) xs) = ap all (sym (take-append-drop (i + 1) xs)) ∙ joins-append (take (i + 1) xs) (drop (i + 1) xs) in
+        omega (arith, ap length e, length-append (all (take (i + 1) xs)) (all (drop (i + 1) xs)), joins-length)
+
+    pub joins-added : (at : ℕ) (was : List ℕ) → at + length (all xs) ≤ length was → added (at + length (all (take i xs))) (one (getD xs i d)) (added at (all (take i xs)) was) ≡ added at (all (take (i + 1) xs)) was
+    joins-added at was room = added-both at (all (take i xs)) (one (getD xs i d)) was (omega (arith, joins-room)) ∙ ap (λ t. added at t was) (sym joins-step)
 
 -- the checker's default for a field to write
 abbrev pub no-piece : Piece

@@ -28,7 +28,11 @@ piece-bytes (Slot n) = 115 ∷ decimal n
 abbrev pub left-of : ℕ → ℕ → Option ℕ
 left-of room n = cond (leb n room) (Some (room - n)) None
 
+-- bs over xs from place `at` on
+abbrev pub added : ℕ → List ℕ → List ℕ → List ℕ
+added at bs xs = take at xs ++ (bs ++ drop (at + length bs) xs)
+
 -- bs is written over `was` from place `at` on, and its length answered; or it does not fit there, and nothing changes
 abbrev pub Written-at : {E : Type 0} → E → ℕ → List ℕ → List ℕ → Result ℕ E → List ℕ → Type 0
-Written-at refusal at bs was (Ok n) out = (at + length bs ≤ length was) × (n ≡ length bs) × (out ≡ take at was ++ (bs ++ drop (at + length bs) was))
+Written-at refusal at bs was (Ok n) out = (at + length bs ≤ length was) × (n ≡ length bs) × (out ≡ added at bs was)
 Written-at refusal at bs was (Err e) out = (length was < at + length bs) × (e ≡ refusal) × (out ≡ was)
