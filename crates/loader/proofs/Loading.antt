@@ -25,22 +25,24 @@ module _ (h : Heading) (bs : List ℕ) (read : Table) (found held : Tables) (g :
   table : found .nodes ≡ read → held ≡ found → read ≡ held .nodes
   table same is = sym (ap (λ (t : Tables). t .nodes) is ∙ same)
 
-  pub loaded : Is-text-of bs (source-in h read) → length (nodes-in read) ≡ h .nodes → Ready (nodes-in read) (h .parameters) (h .temporaries) (vec-items (found .live)) g → found .nodes ≡ read → held ≡ found
+  pub loaded : Is-text-of bs (source-in h read) → Ready (nodes-in read) (h .parameters) (h .temporaries) (vec-items (found .live)) g → found .nodes ≡ read → held ≡ found
       → Loaded h (nodes-in (held .nodes)) (vec-items (held .live))
-  loaded exact count r same is =
+  loaded exact r same is =
       let all = ready r same is in
       record {
         sound = subst (λ (t : Table). Rattle.source.specs.Nodes.AllSound (h .temporaries) (nodes-in t)) (table same is) (sound-at _ _ _ (exact .0 .sound));
-        long = subst (λ (t : Table). length (nodes-in t) ≡ h .nodes) (table same is) count;
         live = all .live;
         entry = all .entry;
       }
+
+  pub counted : length (nodes-in read) ≡ h .nodes → found .nodes ≡ read → held ≡ found → length (nodes-in (held .nodes)) ≡ h .nodes
+  counted count same is = subst (λ (t : Table). length (nodes-in t) ≡ h .nodes) (table same is) count
 
   pub granted : (counts : ℕ × ℕ × ℕ) → counts ≡ (h .temporaries, h .nodes, g) → read-source bs ≡ Ok (source-in h read) → length (nodes-in read) ≡ h .nodes → Ready (nodes-in read) (h .parameters) (h .temporaries) (vec-items (found .live)) g → found .nodes ≡ read → held ≡ found
       → Granted bs (source-in h (held .nodes)) (vec-items (held .live)) counts
   granted counts three text count r same is =
       let all = ready r same is in
-      let long : length (nodes-in (held .nodes)) ≡ h .nodes = subst (λ (t : Table). length (nodes-in t) ≡ h .nodes) (table same is) count in
+      let long = counted count same is in
       record {
         read = text ∙ ap (λ (t : Table). Ok (source-in h t)) (table same is);
         live = all .live;

@@ -61,9 +61,8 @@ pub record Unset (nodes : List Node) (parameters : ℕ) (words : List ℕ) (t : 
   pub live : Liveness nodes (live-sets words)
   pub first : First (λ v. leb parameters v && live-sets words 0 v) t
 
--- nodes that were read under the heading h, of which the words hold the liveness
+-- nodes in range under the heading h, of which the words hold the liveness
 pub record Loaded (h : Heading) (nodes : List Node) (words : List ℕ) : Type 0 where
   pub sound : AllSound (h .temporaries) nodes
-  pub long : length nodes ≡ h .nodes
   pub live : Liveness nodes (live-sets words)
   pub entry : (v : ℕ) → live-sets words 0 v ≡ true → v < h .parameters

@@ -1,6 +1,7 @@
 // What holds the loaded source, with as much room again to read another one before it takes its place.
 ghost use mathlib.Core.Path.{_≡_};
-ghost use Prim.Native.Nat.{_≤_};
+ghost use Prim.Native.Nat.{_<_, _≤_};
+ghost use lib.ListN.{length};
 ghost use Rattle.std.specs.Of.Vec.{vec-items, vec-cap};
 ghost use Rattle.std.specs.declared.option.Option.the-variants.{Some};
 ghost use Rattle.source.specs.Tables.{nodes-in};
@@ -22,5 +23,8 @@ pub struct Loader {
     pub(crate) loaded: Option<Heading>,
     pub(crate) tables: Tables,
     pub(crate) spare: Tables,
+    ghost few: { ((h : Heading) → loaded ≡ Some h → h .temporaries ≤ 48) },
+    ghost some: { ((h : Heading) → loaded ≡ Some h → 0 < h .nodes) },
+    ghost long: { ((h : Heading) → loaded ≡ Some h → length (nodes-in (tables .nodes)) ≡ h .nodes) },
     ghost stands: { ((h : Heading) → loaded ≡ Some h → ∥ Loaded h (nodes-in (tables .nodes)) (vec-items (tables .live)) ∥₁) },
 }

@@ -1,0 +1,10 @@
+pub mod Words
+pub mod Headings
+pub mod Ranges
+pub mod Items
+pub mod Allocations
+pub mod Rendering
+pub mod Stages
+pub mod Reading
+pub mod States
+pub mod WellFormed

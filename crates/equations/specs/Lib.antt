@@ -1,0 +1,5 @@
+pub mod Equations
+pub mod Questions
+pub mod Verdict
+pub mod Laws
+pub mod Steps

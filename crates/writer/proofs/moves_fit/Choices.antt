@@ -1,0 +1,12 @@
+use mathlib.Core.Path.{_≡_}
+use mathlib.Core.List.{map}
+use Prim.Native.Nat.{_+_}
+use lib.ListN.{length, take}
+use Rattle.text.specs.Parts.{written}
+use Rattle.text.specs.Put.{added}
+use Rattle.allocation.specs.Allocations.{line-at}
+use Rattle.allocation.specs.Rendering.{move-rows, lines-rows}
+use Rattle.writer.proofs.moves_fit.Given as given
+
+abbrev pub Inv-loop-m : given.InvT-loop-m
+Inv-loop-m l = l .left + length (written (move-rows (l .registers) (l .edge) (take (l .m-index) (l .moves)))) ≡ l .room

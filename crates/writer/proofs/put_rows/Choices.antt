@@ -1,0 +1,14 @@
+use mathlib.Core.Path.{_≡_}
+use mathlib.Core.List.{map}
+use Prim.Native.Nat.{_+_}
+use lib.ListN.{length, take}
+use Rattle.text.specs.Parts.{written}
+use Rattle.text.specs.Put.{added}
+use Rattle.allocation.specs.Allocations.{line-at}
+use Rattle.allocation.specs.Rendering.{move-rows, lines-rows}
+use Rattle.writer.proofs.put_rows.Given as given
+
+abbrev pub Inv-loop-row : given.InvT-loop-row
+Inv-loop-row l =
+    (l .at ≡ l .from + length (written (lines-rows (l .registers) (map (line-at (l .moves)) (take (l .row-index) (l .rows))))))
+    × (l .out ≡ added (l .from) (written (lines-rows (l .registers) (map (line-at (l .moves)) (take (l .row-index) (l .rows))))) (l .entry .out))
