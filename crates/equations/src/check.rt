@@ -68,9 +68,13 @@ pub fn check(
 // not at the entry.
 pub fn accepted_exactly()
     ensures { λ _. ⌜ Accepted-exactly ⌝ }
-{}
+{
+    // the contract is all that there is
+}
 
 // An allocation is not both accepted and refused, and it is refused in one way.
 pub fn one_verdict()
     ensures { λ _. ⌜ One-verdict ⌝ }
-{}
+{
+    // the contract is all that there is
+}

@@ -71,25 +71,25 @@ joined (x ∷ xs) ys e = ap (λ (y : Bool). same x e || y) (joined xs ys e) ∙ 
     either-way true b c = refl
     either-way false b c = refl
 
-module _ (m n : Bool) (x0 x1 e0 e1 to from : ℕ) where
+module _ (m n : Bool) (x0 x1 el ev to from : ℕ) where
   away : x0 ≡ to
-      → ((eqb e0 from && eqb e1 x1) || ((m && not (eqb e0 to)) || (eqb e0 from && n)))
-      ≡ ((((eqb e0 x0 && eqb e1 x1) || m) && not (eqb e0 to)) || (eqb e0 from && ((eqb to x0 && eqb e1 x1) || n)))
+      → ((eqb el from && eqb ev x1) || ((m && not (eqb el to)) || (eqb el from && n)))
+      ≡ ((((eqb el x0 && eqb ev x1) || m) && not (eqb el to)) || (eqb el from && ((eqb to x0 && eqb ev x1) || n)))
   away h = grind (arith, tells)
 
   stays : (x0 ≡ to → ⊥)
-      → ((eqb e0 x0 && eqb e1 x1) || ((m && not (eqb e0 to)) || (eqb e0 from && n)))
-      ≡ ((((eqb e0 x0 && eqb e1 x1) || m) && not (eqb e0 to)) || (eqb e0 from && ((eqb to x0 && eqb e1 x1) || n)))
+      → ((eqb el x0 && eqb ev x1) || ((m && not (eqb el to)) || (eqb el from && n)))
+      ≡ ((((eqb el x0 && eqb ev x1) || m) && not (eqb el to)) || (eqb el from && ((eqb to x0 && eqb ev x1) || n)))
   stays h = grind (arith, tells)
 
   other-name : x1 ≡ to
-      → ((eqb e0 x0 && eqb e1 from) || ((m && not (eqb e1 to)) || (eqb e1 from && n)))
-      ≡ ((((eqb e0 x0 && eqb e1 x1) || m) && not (eqb e1 to)) || (eqb e1 from && ((eqb e0 x0 && eqb to x1) || n)))
+      → ((eqb el x0 && eqb ev from) || ((m && not (eqb ev to)) || (eqb ev from && n)))
+      ≡ ((((eqb el x0 && eqb ev x1) || m) && not (eqb ev to)) || (eqb ev from && ((eqb el x0 && eqb to x1) || n)))
   other-name h = grind (arith, tells)
 
   same-name : (x1 ≡ to → ⊥)
-      → ((eqb e0 x0 && eqb e1 x1) || ((m && not (eqb e1 to)) || (eqb e1 from && n)))
-      ≡ ((((eqb e0 x0 && eqb e1 x1) || m) && not (eqb e1 to)) || (eqb e1 from && ((eqb e0 x0 && eqb to x1) || n)))
+      → ((eqb el x0 && eqb ev x1) || ((m && not (eqb ev to)) || (eqb ev from && n)))
+      ≡ ((((eqb el x0 && eqb ev x1) || m) && not (eqb ev to)) || (eqb ev from && ((eqb el x0 && eqb to x1) || n)))
   same-name h = grind (arith, tells)
 
 none-and : (q : Bool) → false ≡ (q && false)
