@@ -1,3 +1,5 @@
+#![tactic(auto)]
+
 // Allocations: moves and main lines, what a line of their text says, and the tables that hold them.
 pub mod counting;
 pub mod filling;

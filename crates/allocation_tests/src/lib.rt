@@ -1,3 +1,5 @@
+#![tactic(auto)]
+
 // Examples of allocation texts, read, written and refused.
 #[cfg(test)]
 mod tests {

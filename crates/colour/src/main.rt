@@ -1,3 +1,5 @@
+#![tactic(auto)]
+
 // Reads a source text on standard input, places its temporaries by colouring, and prints the allocation, or the refusal.
 use allocation::tables::Tables;
 use anyhow::anyhow;

@@ -5,7 +5,7 @@ use Rattle.std.proofs.lemmas.Bool.{cases_eq, cases_lt, eq-eqb, ne_eqb, and_left,
 use Rattle.sets.specs.Masks.{bit, names}
 use Rattle.sets.proofs.Masks.{bit-zero, bit_high}
 use Rattle.sets.proofs.Turns.{zeros_at}
-use Rattle.source.specs.Nodes.{result, node_at, Sound}
+use Rattle.source.specs.Nodes.{result_of, node_at, Sound}
 use Rattle.source.specs.declared.node.Node.{Node}
 use Rattle.source.specs.declared.node.Node.TheVariants.{Const, Mov, Binary, Call, Branch, Return}
 use Rattle.loader.specs.Live.{out_of, is_result, live_sets}
@@ -13,7 +13,7 @@ use Rattle.places.specs.Places.{copied}
 use Rattle.colouring.specs.Colouring.{some, demands, apart, rows}
 
 -- the numbers of a sound node are below 64 where there are at most 48 temporaries
-pub result-below : (v n : ℕ) (node : Node) → Sound v n node → IfSome (result node) (λ d. d < v)
+pub result-below : (v n : ℕ) (node : Node) → Sound v n node → IfSome (result_of node) (λ d. d < v)
 result-below v n (Const d k next) s = s.0
 result-below v n (Mov d a next) s = s.0
 result-below v n (Binary o d a b next) s = s.0
@@ -36,7 +36,7 @@ small v (Some y) (Some x) h e c = let q : x ≡ y = cc in omega (arith, c, q)
 
 module _ (L : ℕ → ℕ → Bool) (node : Node) (table : List ℕ) where
   -- a node with no result demands nothing
-  pub demands-none : None ≡ result node → (u v : ℕ) → rows table u v ≡ (rows table u v || demands L node u v)
+  pub demands-none : None ≡ result_of node → (u v : ℕ) → rows table u v ≡ (rows table u v || demands L node u v)
   demands-none e u v = go (rows table u v) (ap (λ (o : Option ℕ). names o u && (out_of L node v && not (names (copied node) v))) (sym e))
     where
       go : (a : Bool) {b : Bool} → b ≡ false → a ≡ (a || b)
@@ -44,7 +44,7 @@ module _ (L : ℕ → ℕ → Bool) (node : Node) (table : List ℕ) where
       go false h = sym h
 
   -- what the result d demands is added to its row
-  pub demands-added : (d word : ℕ) → Some d ≡ result node → d < length table → ((v : ℕ) → bit word v ≡ (rows table d v || (out_of L node v && not (names (copied node) v))))
+  pub demands-added : (d word : ℕ) → Some d ≡ result_of node → d < length table → ((v : ℕ) → bit word v ≡ (rows table d v || (out_of L node v && not (names (copied node) v))))
       → (u v : ℕ) → rows (set table d word) u v ≡ (rows table u v || demands L node u v)
   demands-added d word e h w u v = elim (cases_eq u d) [ inl q ↦ here q | inr ne ↦ other ne ]
     where

@@ -4,7 +4,7 @@ use Rattle.std.proofs.Common.{sym, ap, subst, ◌∙◌, inl, inr, arith, length
 use Rattle.std.proofs.lemmas.List.{get_or-replicate, get_or-set_same, get_or-set_other, get_or_past, length-replicate}
 use Rattle.std.proofs.lemmas.Bool.{or_cases, or_parts, or_from, or_left, or_right, and_parts, and_from, and_left, and_right, cases_eq, cases_lt, ltb-true, lt-ltb, both_ways, not-true, not_from_false, eq-eqb, ne_eqb, eqb-true}
 use Rattle.sets.specs.Masks.{names}
-use Rattle.source.specs.Nodes.{result, node_at}
+use Rattle.source.specs.Nodes.{result_of, node_at}
 use Rattle.loader.specs.Live.{out_of, is_result}
 use Rattle.places.specs.declared.place.Place.{Place}
 use Rattle.places.specs.declared.place.Place.TheVariants.{Register, Home}
@@ -88,7 +88,7 @@ module _ (s : Source) (L : ℕ → ℕ → Bool) where
   conflict_self u = and_right _ _ (ap not (eq-eqb u u refl))
 
   -- what a node demands, and what arrivals do, is a conflict
-  pub conflict_result : (n d v : ℕ) → n < length s.nodes → result (node_at s.nodes n) ≡ Some d → out_of L (node_at s.nodes n) v ≡ true → (v ≢ d) → names (copied (node_at s.nodes n)) v ≡ false → conflict s L v d ≡ true
+  pub conflict_result : (n d v : ℕ) → n < length s.nodes → result_of (node_at s.nodes n) ≡ Some d → out_of L (node_at s.nodes n) v ≡ true → (v ≢ d) → names (copied (node_at s.nodes n)) v ≡ false → conflict s L v d ≡ true
   conflict_result n d v h e x ne c =
       and_from _ _
       (or_left _ _ (or_right (demanded s L v d) _ (some_true (length s.nodes) (λ n. demands L (node_at s.nodes n) d v) n h (and_from _ _ (ap (λ (o : Option ℕ). names o d) e ∙ eq-eqb d d refl) (and_from _ _ x (not_from_false _ c))))))

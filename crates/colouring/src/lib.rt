@@ -1,3 +1,5 @@
+#![tactic(auto)]
+
 // The placer that colours the conflicts of temporaries.
 pub(crate) mod colour;
 pub(crate) mod conflicts;

@@ -1,3 +1,5 @@
+#![tactic(auto)]
+
 // The plain engine has one answer to each call.
 ghost use Rattle.determinacy.specs.Laws.{OneAnswerEach, OneRun};
 

@@ -4,7 +4,7 @@ use Rattle.sets.specs.Masks.{names}
 use Rattle.allocation.specs.Lines.{arrival, main_action}
 use Rattle.refusal.specs.declared.Refusal.{Refusal}
 use Rattle.refusal.specs.declared.Refusal.TheVariants.{Elsewhere, Overwritten, NeverSet, Foreign}
-use Rattle.source.specs.Nodes.{Action, const, mov, binary, call, branch, return, action, result}
+use Rattle.source.specs.Nodes.{Action, const, mov, binary, call, branch, return, action, result_of}
 use Rattle.source.specs.Reading.{Source}
 use Rattle.source.specs.declared.node.Node.{Node}
 use Rattle.allocation.specs.Allocations.{Allocation, target}
@@ -60,8 +60,8 @@ questions_at n d m = record { forbids = elsewhere d m; refusal = λ e. Elsewhere
 
 -- and 35 where there is none, at `const` and operations
 abbrev pub questions_of : ℕ → Node → Option ℕ → List Question
-questions_of n node (Some m) = questions_at n (result node) m
-questions_of n node None = cond (computes (action node)) (record { forbids = never_set (result node); refusal = λ e. NeverSet n e.1 e.0 } ∷ []) []
+questions_of n node (Some m) = questions_at n (result_of node) m
+questions_of n node None = cond (computes (action node)) (record { forbids = never_set (result_of node); refusal = λ e. NeverSet n e.1 e.0 } ∷ []) []
 
 abbrev pub questions : ℕ → Node → Main → List Question
 questions n node main = questions_of n node (target main)

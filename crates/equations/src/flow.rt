@@ -2,7 +2,7 @@
 ghost use Rattle.std.specs.Prelude.{◌≡◌, ℕ, ◌+◌, ◌*◌, ◌<◌, ◌≤◌, true, false, [], ◌∷◌, length, slice_index};
 ghost use Rattle.sets.specs.Masks.{bit, Below};
 ghost use Rattle.sets.specs.Least.{Growing, Solution, Least, room};
-ghost use Rattle.source.specs.Nodes.{result, operands, Sound};
+ghost use Rattle.source.specs.Nodes.{result_of, operands, Sound};
 ghost use Rattle.allocation.specs.Allocations.{target, origins, line_at};
 ghost use Rattle.equations.specs.Equations.{back_moves, used, unset, back_main, after, before, held, memory_sets};
 ghost use Rattle.equations.specs.Steps.{is_first, is_second, either, MovesReach, MainReach, RowReach, Reach, step_in, Stored};
@@ -14,7 +14,7 @@ use source::node::Node;
 
 // The temporary that the node sets, if any.
 pub fn find_result(node: Node) -> Option<u8>
-    ensures* { λ r. ⌜ r ≡ result node ⌝ }
+    ensures { result ≡ result_of node }
 {
     match node {
         Node::Const { result, .. } => Some(result),
@@ -28,7 +28,7 @@ pub fn find_result(node: Node) -> Option<u8>
 
 // The register that the main line sets, if any.
 pub fn find_target(main: Main) -> Option<u8>
-    ensures* { λ r. ⌜ r ≡ target main ⌝ }
+    ensures { result ≡ target main }
 {
     match main {
         Main::Skip => None,
@@ -43,7 +43,7 @@ pub fn find_target(main: Main) -> Option<u8>
 // The first temporary that the node reads, as a set.
 fn first_operand(node: Node) -> u64
     requires { Below 64 (operands node) }
-    ensures* { λ r. ⌜ ((v : ℕ) → bit r v ≡ is_first (operands node) v) ⌝ }
+    ensures { (v : ℕ) → bit result v ≡ is_first (operands node) v }
 {
     match node {
         Node::Const { .. } => empty(),
@@ -58,7 +58,7 @@ fn first_operand(node: Node) -> u64
 // The second one.
 fn second_operand(node: Node) -> u64
     requires { Below 64 (operands node) }
-    ensures* { λ r. ⌜ ((v : ℕ) → bit r v ≡ is_second (operands node) v) ⌝ }
+    ensures { (v : ℕ) → bit result v ≡ is_second (operands node) v }
 {
     match node {
         Node::Const { .. } => empty(),
@@ -75,7 +75,7 @@ fn use_two(set: &mut [u64], node: Node, a: u8, b: u8)
     requires operands { Below 64 (operands node) }
     requires a { a < length set.old }
     requires b { b < length set.old }
-    ensures* { λ _. ⌜ held set.new ≡ used (operands node) (a ∷ b ∷ []) (held set.old) ⌝ }
+    ensures { held set.new ≡ used (operands node) (a ∷ b ∷ []) (held set.old) }
 {
     add(set, a, first_operand(node));
     add(set, b, second_operand(node));
@@ -85,7 +85,7 @@ fn use_two(set: &mut [u64], node: Node, a: u8, b: u8)
 fn use_one(set: &mut [u64], node: Node, a: u8)
     requires operands { Below 64 (operands node) }
     requires a { a < length set.old }
-    ensures* { λ _. ⌜ held set.new ≡ used (operands node) (a ∷ []) (held set.old) ⌝ }
+    ensures { held set.new ≡ used (operands node) (a ∷ []) (held set.old) }
 {
     add(set, a, first_operand(node));
 }
@@ -95,7 +95,7 @@ fn use_operands(set: &mut [u64], node: Node, main: Main)
     requires len { length set.old ≡ 64 }
     requires operands { Below 64 (operands node) }
     requires main { MainReach main }
-    ensures* { λ _. ⌜ held set.new ≡ used (operands node) (origins main) (held set.old) ⌝ }
+    ensures { held set.new ≡ used (operands node) (origins main) (held set.old) }
 {
     match main {
         Main::Skip => {}
@@ -112,7 +112,7 @@ fn back_result(set: &mut [u64], node: Node, main: Main, nodes: usize)
     requires len { length set.old ≡ 64 }
     requires sound { Sound 64 nodes node }
     requires main { MainReach main }
-    ensures* { λ _. ⌜ held set.new ≡ unset node main (held set.old) ⌝ }
+    ensures { held set.new ≡ unset node main (held set.old) }
 {
     let target = find_target(main);
     match node {
@@ -130,7 +130,7 @@ fn back_main(set: &mut [u64], node: Node, main: Main, nodes: usize)
     requires len { length set.old ≡ 64 }
     requires sound { Sound 64 nodes node }
     requires main { MainReach main }
-    ensures* { λ _. ⌜ held set.new ≡ back_main node main (held set.old) ⌝ }
+    ensures { held set.new ≡ back_main node main (held set.old) }
 {
     back_result(set, node, main, nodes);
     use_operands(set, node, main);
@@ -141,7 +141,7 @@ pub fn back_edge(set: &mut [u64], memory: &[u64], next: usize, moves: &[Move])
     requires len { length set.old ≡ 64 }
     requires at { 64 * next + 64 ≤ length memory.now }
     requires moves { MovesReach moves.now }
-    ensures* { λ _. ⌜ held set.new ≡ back_moves moves.now (memory_sets memory.now next) ⌝ }
+    ensures { held set.new ≡ back_moves moves.now (memory_sets memory.now next) }
 {
     set.copy_from_slice(&memory[64 * next..64 * next + 64]);
     back_moves(set, moves);
@@ -161,7 +161,7 @@ fn after_branch(
     requires no { 64 * no + 64 ≤ length memory.now }
     requires outs { MovesReach outs.now }
     requires alts { MovesReach alts.now }
-    ensures* { λ _. ⌜ held set.new ≡ either (back_moves outs.now (memory_sets memory.now yes)) (back_moves alts.now (memory_sets memory.now no)) ⌝ }
+    ensures { held set.new ≡ either (back_moves outs.now (memory_sets memory.now yes)) (back_moves alts.now (memory_sets memory.now no)) }
 {
     back_edge(set, memory, yes, outs);
     let mut other = [0; 64];
@@ -183,7 +183,7 @@ pub fn after_node(
     requires row { RowReach (length moves.now) row }
     requires moves { MovesReach moves.now }
     requires room { 64 * nodes ≤ length memory.now }
-    ensures* { λ _. ⌜ held set.new ≡ after (memory_sets memory.now) node (line_at moves.now row) ⌝ }
+    ensures { held set.new ≡ after (memory_sets memory.now) node (line_at moves.now row) }
 {
     let outs = &moves[row.outs as usize..row.alts as usize];
     match node {
@@ -208,7 +208,7 @@ fn before_node(set: &mut [u64], node: Node, row: Row, moves: &[Move], memory: &[
     requires row { RowReach (length moves.now) row }
     requires moves { MovesReach moves.now }
     requires room { 64 * nodes ≤ length memory.now }
-    ensures* { λ _. ⌜ held set.new ≡ before (memory_sets memory.now) node (line_at moves.now row) ⌝ }
+    ensures { held set.new ≡ before (memory_sets memory.now) node (line_at moves.now row) }
 {
     after_node(set, node, row, moves, memory, nodes);
     back_main(set, node, row.main, nodes);
@@ -219,9 +219,9 @@ fn before_node(set: &mut [u64], node: Node, row: Row, moves: &[Move], memory: &[
 fn store(memory: &mut [u64], at: usize, set: &[u64]) -> bool
     requires fits { at + length set.now ≤ length memory.old }
     requires grows { (l : ℕ) → l < length set.now → slice_index memory.old (at + l) ≤ slice_index set.now l }
-    ensures* stored { λ _. ⌜ Stored memory.old at set.now memory.new ⌝ }
-    ensures* again { λ r. ⌜ (r ≡ true → room memory.new < room memory.old) ⌝ }
-    ensures* done { λ r. ⌜ (r ≡ false → memory.new ≡ memory.old) ⌝ }
+    ensures stored { Stored memory.old at set.now memory.new }
+    ensures again { result ≡ true → room memory.new < room memory.old }
+    ensures done { result ≡ false → memory.new ≡ memory.old }
 {
     let mut changed = false;
     for l in 0..set.len() {
@@ -238,10 +238,10 @@ fn pass(nodes: &[Node], rows: &[Row], moves: &[Move], memory: &mut [u64]) -> boo
     requires reach { Reach nodes.now rows.now moves.now }
     requires room { 64 * length nodes.now ≤ length memory.old }
     requires growing { Growing (length nodes.now) (step_in nodes.now rows.now moves.now) (memory_sets memory.old) }
-    ensures* growing { λ _. ⌜ Growing (length nodes.now) (step_in nodes.now rows.now moves.now) (memory_sets memory.new) ⌝ }
-    ensures* again { λ r. ⌜ (r ≡ true → room memory.new < room memory.old) ⌝ }
-    ensures* done { λ r. ⌜ (r ≡ false → Solution (length nodes.now) (step_in nodes.now rows.now moves.now) (memory_sets memory.new)) ⌝ }
-    ensures* others { λ _. ⌜ ((k : ℕ) → 64 * length nodes.now ≤ k → slice_index memory.new k ≡ slice_index memory.old k) ⌝ }
+    ensures growing { Growing (length nodes.now) (step_in nodes.now rows.now moves.now) (memory_sets memory.new) }
+    ensures again { result ≡ true → room memory.new < room memory.old }
+    ensures done { result ≡ false → Solution (length nodes.now) (step_in nodes.now rows.now moves.now) (memory_sets memory.new) }
+    ensures others { (k : ℕ) → 64 * length nodes.now ≤ k → slice_index memory.new k ≡ slice_index memory.old k }
 {
     let mut set = [0; 64];
     let mut changed = false;
@@ -258,8 +258,8 @@ fn pass(nodes: &[Node], rows: &[Row], moves: &[Move], memory: &mut [u64]) -> boo
 pub fn solve(nodes: &[Node], rows: &[Row], moves: &[Move], memory: &mut [u64])
     requires reach { Reach nodes.now rows.now moves.now }
     requires room { 64 * length nodes.now ≤ length memory.old }
-    ensures* least { λ _. ⌜ Least (length nodes.now) (step_in nodes.now rows.now moves.now) (memory_sets memory.new) ⌝ }
-    ensures* others { λ _. ⌜ ((k : ℕ) → 64 * length nodes.now ≤ k → slice_index memory.new k ≡ slice_index memory.old k) ⌝ }
+    ensures least { Least (length nodes.now) (step_in nodes.now rows.now moves.now) (memory_sets memory.new) }
+    ensures others { (k : ℕ) → 64 * length nodes.now ≤ k → slice_index memory.new k ≡ slice_index memory.old k }
 {
     let end = 64 * nodes.len();
     memory[..end].fill(0);

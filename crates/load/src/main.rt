@@ -1,3 +1,5 @@
+#![tactic(auto)]
+
 // Reads a source text on standard input and prints its three counts, or the refusal.
 use anyhow::anyhow;
 use loader::holder::Loader;

@@ -2,7 +2,7 @@
 use Rattle.std.specs.Prelude.{◌≡◌, ℕ, ◌<◌, Bool, true, false, not, ◌&&◌, ◌||◌, List, length, Some, None, Option, nat_eq, nat_le, slice_index}
 use Rattle.sets.specs.Masks.{bit, count, greatest, First, any, names}
 use Rattle.sets.specs.Least.{Least}
-use Rattle.source.specs.Nodes.{result, operands, successors, node_at, AllSound}
+use Rattle.source.specs.Nodes.{result_of, operands, successors, node_at, AllSound}
 use Rattle.source.specs.declared.heading.Heading.{Heading}
 use Rattle.source.specs.declared.node.Node.{Node}
 
@@ -16,7 +16,7 @@ reads node v = any (nat_eq v) (operands node)
 
 -- the node sets v
 abbrev pub is_result : Node → ℕ → Bool
-is_result node v = names (result node) v
+is_result node v = names (result_of node) v
 
 -- live into the node: what it reads, and what is live out of it except its result
 abbrev pub into : (ℕ → ℕ → Bool) → Node → ℕ → Bool

@@ -2,7 +2,7 @@
 ghost use Rattle.std.specs.Prelude.{◌≡◌, ℕ, ◌<◌, ◌≤◌, true, false, ◌&&◌, length, IfSome, MatchOption, MatchResult, nat_le};
 ghost use Rattle.sets.specs.Masks.{bit, Below, First};
 ghost use Rattle.sets.specs.Least.{Growing, Solution, room};
-ghost use Rattle.source.specs.Nodes.{result, operands, successors, AllSound, Sound};
+ghost use Rattle.source.specs.Nodes.{result_of, operands, successors, AllSound, Sound};
 ghost use Rattle.loader.specs.Live.{out_of, reads, is_result, into, live_step, live_sets, Liveness, Ready, Unset};
 
 use sets::mask::{below, empty, greatest_size, lowest, single, union, without};
@@ -11,7 +11,7 @@ use source::node::Node;
 // The temporaries that the node reads.
 fn operand_set(node: Node) -> u64
     requires { Below 64 (operands node) }
-    ensures* { λ r. ⌜ ((v : ℕ) → bit r v ≡ reads node v) ⌝ }
+    ensures { (v : ℕ) → bit result v ≡ reads node v }
 {
     match node {
         Node::Const { .. } => empty(),
@@ -26,7 +26,7 @@ fn operand_set(node: Node) -> u64
 // The temporary that the node sets, if any.
 fn result_set(node: Node) -> u64
     requires { IfSome (result node) (λ d. d < 64) }
-    ensures* { λ r. ⌜ ((v : ℕ) → bit r v ≡ is_result node v) ⌝ }
+    ensures { (v : ℕ) → bit result v ≡ is_result node v }
 {
     match node {
         Node::Const { result, .. } => single(result),
@@ -41,7 +41,7 @@ fn result_set(node: Node) -> u64
 // The temporaries live out of the node.
 pub fn live_out(node: Node, live: &[u64]) -> u64
     requires { Below (length live.now) (successors node) }
-    ensures* { λ r. ⌜ ((v : ℕ) → bit r v ≡ out_of (live_sets live.now) node v) ⌝ }
+    ensures { (v : ℕ) → bit result v ≡ out_of (live_sets live.now) node v }
 {
     match node {
         Node::Const { next, .. } => live[next as usize],
@@ -56,7 +56,7 @@ pub fn live_out(node: Node, live: &[u64]) -> u64
 // The temporaries live into the node, by those live into its successors.
 fn live_in(node: Node, live: &[u64]) -> u64
     requires { Sound 64 (length live.now) node }
-    ensures* { λ r. ⌜ ((v : ℕ) → bit r v ≡ into (live_sets live.now) node v) ⌝ }
+    ensures { (v : ℕ) → bit result v ≡ into (live_sets live.now) node v }
 {
     let kept = without(live_out(node, live), result_set(node));
     union(operand_set(node), kept)
@@ -67,9 +67,9 @@ fn pass(nodes: &[Node], live: &mut [u64]) -> bool
     requires sound { AllSound 64 nodes.now }
     requires len { length live.old ≡ length nodes.now }
     requires growing { Growing (length nodes.now) (live_step nodes.now) (live_sets live.old) }
-    ensures* growing { λ _. ⌜ Growing (length nodes.now) (live_step nodes.now) (live_sets live.new) ⌝ }
-    ensures* again { λ r. ⌜ (r ≡ true → room live.new < room live.old) ⌝ }
-    ensures* done { λ r. ⌜ (r ≡ false → Solution (length nodes.now) (live_step nodes.now) (live_sets live.new)) ⌝ }
+    ensures growing { Growing (length nodes.now) (live_step nodes.now) (live_sets live.new) }
+    ensures again { result ≡ true → room live.new < room live.old }
+    ensures done { result ≡ false → Solution (length nodes.now) (live_step nodes.now) (live_sets live.new) }
 {
     let mut changed = false;
     for n in (0..nodes.len()).rev() {
@@ -86,7 +86,7 @@ fn pass(nodes: &[Node], live: &mut [u64]) -> bool
 pub(crate) fn liveness(nodes: &[Node], live: &mut [u64])
     requires sound { AllSound 64 nodes.now }
     requires len { length live.old ≡ length nodes.now }
-    ensures* { λ _. ⌜ Liveness nodes.now (live_sets live.new) ⌝ }
+    ensures { Liveness nodes.now (live_sets live.new) }
 {
     live.fill(0);
     while pass(nodes, live) {}
@@ -94,7 +94,7 @@ pub(crate) fn liveness(nodes: &[Node], live: &mut [u64])
 
 // The lowest temporary of the set that is no parameter.
 fn unset(entry: u64, parameters: u8) -> Option<u32>
-    ensures* { λ r. ⌜ MatchOption r ((v : ℕ) → bit entry v ≡ true → v < parameters) (λ t. (t < 64) × First (λ v. nat_le parameters v && bit entry v) t) ⌝ }
+    ensures { MatchOption result ((v : ℕ) → bit entry v ≡ true → v < parameters) (λ t. (t < 64) × First (λ v. nat_le parameters v && bit entry v) t) }
 {
     lowest(without(entry, below(parameters)))
 }
@@ -110,7 +110,7 @@ pub(crate) fn survey(
     requires few { temporaries ≤ 48 }
     requires some { 0 < length nodes.now }
     requires len { length live.old ≡ length nodes.now }
-    ensures* { λ r. ⌜ MatchResult r (Ready nodes.now parameters temporaries live.new) (Unset nodes.now parameters live.new) ⌝ }
+    ensures { MatchResult result (Ready nodes.now parameters temporaries live.new) (Unset nodes.now parameters live.new) }
 {
     liveness(nodes, live);
     match unset(live[0], parameters) {

@@ -1,3 +1,5 @@
+#![tactic(auto)]
+
 // Examples of source texts, taken and refused.
 #[cfg(test)]
 mod tests {

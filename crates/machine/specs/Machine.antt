@@ -1,6 +1,6 @@
 -- The source machine and the allocated machine: one driver, over any kind of value and any host.
 use Rattle.std.specs.Prelude.{ℕ, zero, suc, ◌+◌, Bool, true, false, cond, ◌&&◌, List, [], ◌∷◌, ◌++◌, map, length, set, Some, None, Option, ◌==◌, slice_index_or, slice_set}
-use Rattle.source.specs.Nodes.{Action, const, mov, binary, call, branch, return, action, node_at, result, operands, successor}
+use Rattle.source.specs.Nodes.{Action, const, mov, binary, call, branch, return, action, node_at, result_of, operands, successor}
 use Rattle.source.specs.Reading.{Source}
 use Rattle.source.specs.declared.node.Node.{Node}
 use Rattle.allocation.specs.Allocations.{Line, Allocation, target, origins}
@@ -144,7 +144,7 @@ module _ {V S : Type 0} (K : Arithmetic V) (E : Answers S V) where
     source_step p f =
         let n = node_at s.nodes p.node in
         let x = effect K E (Some (action n)) (map f (operands n)) p.host in
-        carried n x.taken x.told x.host p f (λ e. assign (result n) x.value f)
+        carried n x.taken x.told x.host p f (λ e. assign (result_of n) x.value f)
 
     -- the source machine from any node, with a value for each temporary
     abbrev pub source_from : ℕ → ℕ → Log V S → (ℕ → V) → Ending V S (ℕ → V)

@@ -1,3 +1,5 @@
+#![tactic(auto)]
+
 // The machine that runs an allocation in place of its source.
 mod cells;
 pub mod code;

@@ -1,3 +1,5 @@
+#![tactic(auto)]
+
 // Kinds of value, hosts and frames by themselves, and runs over each of them.
 mod worked;
 

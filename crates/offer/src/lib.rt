@@ -1,3 +1,5 @@
+#![tactic(auto)]
+
 // Offering an allocation text for the loaded source: it is read, and checked.
 ghost use Rattle.loader.specs.Load.{loaded_source};
 ghost use Rattle.allocation.specs.Allocations.{allocation_of};

@@ -1,3 +1,5 @@
+#![tactic(auto)]
+
 // Allocations that are offered: accepted, or refused by each question of the check.
 #[cfg(test)]
 mod tests {

@@ -1,3 +1,5 @@
+#![tactic(auto)]
+
 // Placing the temporaries of the loaded source: the lines of a placer's places are published, and checked.
 ghost use Rattle.std.specs.Prelude.{◌≡◌, MatchOption};
 ghost use Rattle.loader.specs.Load.{loaded_source, live_words};

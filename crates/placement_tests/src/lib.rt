@@ -1,3 +1,5 @@
+#![tactic(auto)]
+
 // Sources that are placed: the lines published for them, and each refusal.
 #[cfg(test)]
 mod tests {

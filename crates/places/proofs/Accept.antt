@@ -5,7 +5,7 @@ use Rattle.std.proofs.lemmas.List.{get_or-map}
 use Rattle.std.proofs.lemmas.Bool.{or_cases, or_left, or_right, and_parts, and_from, not-true, not_false, not_from_true, not_from_false, eqb-true, eqb-false, eq-eqb, ne_eqb, lt-ltb, ltb-true, ltb-false, cases_eq, cases_Bool, and_cases, both_ways}
 use Rattle.sets.specs.Masks.{any, names}
 use Rattle.sets.specs.Least.{Closed, Least}
-use Rattle.source.specs.Nodes.{result, operands, edges, successor, successors, action, Sound, node_at, AllSound}
+use Rattle.source.specs.Nodes.{result_of, operands, edges, successor, successors, action, Sound, node_at, AllSound}
 use Rattle.source.specs.Reading.{Source}
 use Rattle.source.proofs.Soundness.{all_sound}
 use Rattle.source.specs.declared.node.Condition.{Condition}
@@ -182,7 +182,7 @@ module _ (R : ℕ) (place : ℕ → ℕ) (big : 3 ≤ R) (placed : (v : ℕ) →
   -- one node, where each equation before its successors is of what is live, at its place
   module _ (N V : ℕ) (L : ℕ → ℕ → Bool) (X : ℕ → Eqs) (inside : (m : ℕ) → m < N → Holds (X m) (At (L m))) (n : ℕ) where
     abbrev Apart : Node → Type 0
-    Apart node = (d v : ℕ) → result node ≡ Some d → out_of L node v ≡ true → (v ≡ d → ⊥) → names (copied node) v ≡ false → place v ≡ place d → ⊥
+    Apart node = (d v : ℕ) → result_of node ≡ Some d → out_of L node v ≡ true → (v ≡ d → ⊥) → names (copied node) v ≡ false → place v ≡ place d → ⊥
 
     abbrev line : Node → Line
     line = published_line R place

@@ -1,7 +1,7 @@
 -- Places of temporaries, and when they are consistent. A location is a number: register i is i, and slot j is R + j.
 use Rattle.std.specs.Prelude.{◌≡◌, ℕ, ◌+◌, ◌-◌, ◌<◌, ◌≤◌, Bool, true, false, ◌||◌, ◌⊎◌, List, length, replicate, Some, None, Option, ◌≢◌, slice_index_or}
 use Rattle.sets.specs.Masks.{names}
-use Rattle.source.specs.Nodes.{result, node_at, AllSound}
+use Rattle.source.specs.Nodes.{result_of, node_at, AllSound}
 use Rattle.source.specs.Reading.{Source}
 use Rattle.source.specs.declared.heading.Heading.{Heading}
 use Rattle.source.specs.declared.node.Node.{Node}
@@ -41,7 +41,7 @@ IsPlace R v l = (l < R - 2) ⊎ (l ≡ R + v)
 pub record Consistent (s : Source) (R : ℕ) (L : ℕ → ℕ → Bool) (place : ℕ → ℕ) : Type 0 where
   pub placed : (v : ℕ) → IsPlace R v (place v)
   pub apart :
-      (n : ℕ) → n < length s.nodes → (d v : ℕ) → result (node_at s.nodes n) ≡ Some d → out_of L (node_at s.nodes n) v ≡ true → (v ≢ d) → names (copied (node_at s.nodes n)) v ≡ false
+      (n : ℕ) → n < length s.nodes → (d v : ℕ) → result_of (node_at s.nodes n) ≡ Some d → out_of L (node_at s.nodes n) v ≡ true → (v ≢ d) → names (copied (node_at s.nodes n)) v ≡ false
       → place v ≢ place d
   pub entry : (u v : ℕ) → u < s.parameters → v < s.parameters → L 0 u ≡ true → L 0 v ≡ true → (u ≢ v) → place u ≢ place v
 

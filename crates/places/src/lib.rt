@@ -1,3 +1,5 @@
+#![tactic(auto)]
+
 // Places of temporaries: what a placer owes, and the lines published for its places.
 pub(crate) mod moving;
 pub mod place;

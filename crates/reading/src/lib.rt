@@ -1,3 +1,5 @@
+#![tactic(auto)]
+
 // How an allocation's text is read into tables.
 pub mod holder;
 pub mod reader;

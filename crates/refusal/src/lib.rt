@@ -1,3 +1,5 @@
+#![tactic(auto)]
+
 // Refusals: which question said no, and what it names.
 ghost use Rattle.std.specs.Prelude.{◌≡◌, Some};
 ghost use Rattle.refusal.specs.Numbers.{numbers, refusal_line};

@@ -1,3 +1,5 @@
+#![tactic(auto)]
+
 // Reads a script of calls on standard input, makes them on one new engine, and prints what each answered and left.
 mod bring;
 mod kind;

@@ -1,3 +1,5 @@
+#![tactic(auto)]
+
 // Reading and writing an allocation's text undo each other.
 ghost use Rattle.reading.specs.Laws.{WrittenBack, ReadsWell};
 ghost use Rattle.roundtrip.specs.Laws.{ReadBack};

@@ -1,3 +1,5 @@
+#![tactic(auto)]
+
 // Whole lives of an engine: lists of calls, made on one new engine.
 pub mod call;
 pub mod making;

@@ -1,3 +1,5 @@
+#![tactic(auto)]
+
 // A life of an engine whose runs are of two kinds of value, with a lent row of seats.
 
 #[cfg(test)]

@@ -1,3 +1,5 @@
+#![tactic(auto)]
+
 // The worked examples, as statements about the definitions.
 ghost use Rattle.sheets.specs.Examples.{Worked};
 

@@ -4,7 +4,7 @@ use Rattle.std.proofs.lemmas.Bool.{cases_Bool, both_ways}
 use Rattle.std.proofs.lemmas.Bool.Decides.{nat_tests}
 use Rattle.std.specs.List.{AllByRecursion as All}
 use Rattle.sets.specs.Masks.{any}
-use Rattle.source.specs.Nodes.{Action, const, mov, binary, call, branch, return, action, node_at, result, operands, edges, successor}
+use Rattle.source.specs.Nodes.{Action, const, mov, binary, call, branch, return, action, node_at, result_of, operands, edges, successor}
 use Rattle.source.specs.Reading.{Source}
 use Rattle.source.specs.declared.node.Node.{Node}
 use Rattle.source.specs.declared.node.Node.TheVariants.{Const, Mov, Binary, Call, Branch, Return}
@@ -66,7 +66,7 @@ origins-arity (Main.Call l h a b) = refl
 origins-arity (Main.Branch c a b) = refl
 origins-arity (Main.Return a) = refl
 
-result_sets : (n : Node) → is_some (result n) ≡ sets_one (Some (action n))
+result_sets : (n : Node) → is_some (result_of n) ≡ sets_one (Some (action n))
 result_sets (Const d k next) = refl
 result_sets (Mov d a next) = refl
 result_sets (Binary o d a b next) = refl
@@ -98,7 +98,7 @@ skip_is (Main.Call l h a b) e = cc
 skip_is (Main.Branch c a b) e = cc
 skip_is (Main.Return a) e = cc
 
-unset_drops : (n : Node) (m : Main) (O : ℕ × ℕ → Bool) → main_action m ≡ Some (action n) → unset n m O ≡ dropped (result n) (target m) O
+unset_drops : (n : Node) (m : Main) (O : ℕ × ℕ → Bool) → main_action m ≡ Some (action n) → unset n m O ≡ dropped (result_of n) (target m) O
 unset_drops (Const d k next) m O e = refl
 unset_drops (Mov d a next) m O e = absurd (not_mov m e)
 unset_drops (Binary o d a b next) m O e = refl
@@ -134,7 +134,7 @@ length-store None x cs = refl
 length-store (Some l) x cs = length-set cs l x
 
 -- a result set on both sides
-agree_result : {V : Type 0} (K : Arithmetic V) (k : ℕ) (n : Node) (d t : Option ℕ) (O : ℕ × ℕ → Bool) (x : V) (f : ℕ → V) (cs : List V) → result n ≡ d → is_some d ≡ is_some t → Passed (questions_of k n t) O → Under (length cs) t → Agree K (dropped d t O) f cs → Agree K O (assign d x f) (store t x cs)
+agree_result : {V : Type 0} (K : Arithmetic V) (k : ℕ) (n : Node) (d t : Option ℕ) (O : ℕ × ℕ → Bool) (x : V) (f : ℕ → V) (cs : List V) → result_of n ≡ d → is_some d ≡ is_some t → Passed (questions_of k n t) O → Under (length cs) t → Agree K (dropped d t O) f cs → Agree K O (assign d x f) (store t x cs)
 agree_result K k n None None O x f cs r s pass under h = agree_none K O f cs h
 agree_result K k n None (Some t) O x f cs r s pass under h = absurd (both_ways false refl s)
 agree_result K k n (Some d) None O x f cs r s pass under h = absurd (both_ways false refl (sym s))
@@ -177,16 +177,16 @@ module _ {V S : Type 0} (K : Arithmetic V) (E : Answers S V) where
     of_source n = effect K E (Some (action n)) (map f (operands n)) p.host
 
     abbrev Sides : Node → Effect V S → Option ℕ → Type 0
-    Sides n y t = R (then-drive (carried n (of_source n).taken (of_source n).told (of_source n).host p f (λ e. assign (result n) (of_source n).value f)) i) (then-drive (carried n y.taken y.told y.host p g (λ e. move_all K (outs e) (record { cells = store t y.value g.cells; moves = g.moves }))) j)
+    Sides n y t = R (then-drive (carried n (of_source n).taken (of_source n).told (of_source n).host p f (λ e. assign (result_of n) (of_source n).value f)) i) (then-drive (carried n y.taken y.told y.host p g (λ e. move_all K (outs e) (record { cells = store t y.value g.cells; moves = g.moves }))) j)
 
     same_action : (n : Node) (m : Main) → main_action m ≡ Some (action n) → Passed (questions k n m) O → Agree K (back_main n m O) f g.cells → Under (length g.cells) (target m) → On n → Sides n (main_effect K E m g.cells p.host) (target m)
     same_action n m e pass h under on =
         let x = of_source n in
         let values : map (read K g.cells) (origins m) ≡ map f (operands n) = same_operands K (operands n) (origins m) (unset n m O) f g.cells (operands-arity n ∙ sym (ap arity e) ∙ sym (origins-arity m)) h in
         let same : main_effect K E m g.cells p.host ≡ x = ap₂ {C = Effect V S} (λ o vs. effect K E o vs p.host) e values in
-        let left : Agree K (dropped (result n) (target m) O) f g.cells = subst (λ (Y : ℕ × ℕ → Bool). Agree K Y f g.cells) (unset_drops n m O e) (agree_used K (operands n) (origins m) (unset n m O) f g.cells h) in
-        let out : Agree K O (assign (result n) x.value f) (store (target m) x.value g.cells) = agree_result K k n (result n) (target m) O x.value f g.cells refl (result_sets n ∙ sym (ap sets_one e) ∙ sym (target_sets m)) pass under left in
-        subst (λ (y : Effect V S). Sides n y (target m)) (sym same) (carried_alike R re n x.taken x.told x.host p f g (λ _. assign (result n) x.value f) (λ b. move_all K (outs b) (record { cells = store (target m) x.value g.cells; moves = g.moves })) i j (λ b t. on (assign (result n) x.value f) (store (target m) x.value g.cells) b out (length-store (target m) x.value g.cells) (edge_among n (map f (operands n)) p.host b t) _ refl))
+        let left : Agree K (dropped (result_of n) (target m) O) f g.cells = subst (λ (Y : ℕ × ℕ → Bool). Agree K Y f g.cells) (unset_drops n m O e) (agree_used K (operands n) (origins m) (unset n m O) f g.cells h) in
+        let out : Agree K O (assign (result_of n) x.value f) (store (target m) x.value g.cells) = agree_result K k n (result_of n) (target m) O x.value f g.cells refl (result_sets n ∙ sym (ap sets_one e) ∙ sym (target_sets m)) pass under left in
+        subst (λ (y : Effect V S). Sides n y (target m)) (sym same) (carried_alike R re n x.taken x.told x.host p f g (λ _. assign (result_of n) x.value f) (λ b. move_all K (outs b) (record { cells = store (target m) x.value g.cells; moves = g.moves })) i j (λ b t. on (assign (result_of n) x.value f) (store (target m) x.value g.cells) b out (length-store (target m) x.value g.cells) (edge_among n (map f (operands n)) p.host b t) _ refl))
 
     skipped : (n : Node) → skippable (action n) ≡ true → Passed (questions k n Main.Skip) O → Agree K (unset n Main.Skip O) f g.cells → On n → Sides n (main_effect K E Main.Skip g.cells p.host) None
     skipped (Const d c next) s pass h on =

@@ -6,13 +6,13 @@ use Rattle.source.specs.declared.node.Node.{Node}
 use Rattle.source.specs.declared.node.Node.TheVariants.{Const, Mov, Binary, Call, Branch, Return}
 
 -- the temporary that the node sets, if any
-abbrev pub result : Node → Option ℕ
-result (Const d k next) = Some d
-result (Mov d a next) = Some d
-result (Binary o d a b next) = Some d
-result (Call d h a b next) = Some d
-result (Branch c a b taken other) = None
-result (Return a) = None
+abbrev pub result_of : Node → Option ℕ
+result_of (Const d k next) = Some d
+result_of (Mov d a next) = Some d
+result_of (Binary o d a b next) = Some d
+result_of (Call d h a b next) = Some d
+result_of (Branch c a b taken other) = None
+result_of (Return a) = None
 
 -- the temporaries that the node reads, in order
 abbrev pub operands : Node → List ℕ

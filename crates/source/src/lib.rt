@@ -1,3 +1,5 @@
+#![tactic(auto)]
+
 // The source: its nodes, and how its text is read.
 pub mod heading;
 pub mod lines;

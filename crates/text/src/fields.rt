@@ -134,7 +134,7 @@ pub fn find_below(f: &Field, bound: u64) -> Option<u64>
 
 // The first of `words` that a field says.
 pub fn find_named<W: Spelled>(f: &Field, words: &[W]) -> Option<W>
-    ensures { result ≡ word_in spelling words.now (shape f.now) }
+    ensures { result ≡ word_in W.spelling words.now (shape f.now) }
 {
     match f {
         Field::Word { text, .. } => find_word(text, words),

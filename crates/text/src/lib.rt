@@ -1,3 +1,5 @@
+#![tactic(auto)]
+
 // What both kinds of text are made of: lines, fields, numbers, locations and words.
 pub mod fields;
 pub mod number;

@@ -12,7 +12,7 @@ pub trait Spelled: Copy {
 
 // The first of `words` that is written as `text`.
 pub fn find_word<W: Spelled>(text: &[u8], words: &[W]) -> Option<W>
-    ensures { result ≡ named spelling words.now text.now }
+    ensures { result ≡ named W.spelling words.now text.now }
 {
     for w in words {
         if text == w.spell() {

@@ -1,3 +1,5 @@
+#![tactic(auto)]
+
 // Kinds of value, the hosts that answer calls with them, and the frames that hold them.
 pub mod frame;
 pub mod host;

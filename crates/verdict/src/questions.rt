@@ -1,6 +1,6 @@
 // The questions: which equations each forbids, and the first one that a set has.
 ghost use Rattle.std.specs.Prelude.{◌≡◌, ◌+◌, ◌*◌, ◌<◌, ◌≤◌, not, length, IfSome, MatchBool, MatchOption};
-ghost use Rattle.source.specs.Nodes.{action, result};
+ghost use Rattle.source.specs.Nodes.{action, result_of};
 ghost use Rattle.allocation.specs.Allocations.{target, line_at};
 ghost use Rattle.allocation.specs.Ranges.{row_at};
 ghost use Rattle.equations.specs.Equations.{back_moves, held, memory_sets};
@@ -27,7 +27,7 @@ struct Equation {
 fn find_outside(set: &[u64], allowed: &[u64]) -> Option<Equation>
     requires len { length set.now ≡ 64 }
     requires same { length allowed.now ≡ 64 }
-    ensures* { λ r. ⌜ Finds (held set.now) (λ e. not (held allowed.now e)) r ⌝ }
+    ensures { Finds (held set.now) (λ e. not (held allowed.now e)) result }
 {
     for l in 0..set.len() {
         if let Some(v) = lowest(without(set[l], allowed[l])) {
@@ -45,7 +45,7 @@ fn find_elsewhere(set: &[u64], res: Option<u8>, m: u8) -> Option<Equation>
     requires len { length set.now ≡ 64 }
     requires res { IfSome res (λ d. d < 64) }
     requires at { m < 64 }
-    ensures* { λ r. ⌜ Finds (held set.now) (elsewhere res m) r ⌝ }
+    ensures { Finds (held set.now) (elsewhere res m) result }
 {
     let mut allowed = [without(below(64), mask_of(res)); 64];
     allowed[m as usize] = below(64);
@@ -57,7 +57,7 @@ fn find_overwritten(set: &[u64], res: Option<u8>, m: u8) -> Option<Equation>
     requires len { length set.now ≡ 64 }
     requires res { IfSome res (λ d. d < 64) }
     requires at { m < 64 }
-    ensures* { λ r. ⌜ Finds (held set.now) (overwritten res m) r ⌝ }
+    ensures { Finds (held set.now) (overwritten res m) result }
 {
     let mut allowed = [below(64); 64];
     allowed[m as usize] = mask_of(res);
@@ -68,7 +68,7 @@ fn find_overwritten(set: &[u64], res: Option<u8>, m: u8) -> Option<Equation>
 fn find_never_set(set: &[u64], res: Option<u8>) -> Option<Equation>
     requires len { length set.now ≡ 64 }
     requires res { IfSome res (λ d. d < 64) }
-    ensures* { λ r. ⌜ Finds (held set.now) (never_set res) r ⌝ }
+    ensures { Finds (held set.now) (never_set res) result }
 {
     let allowed = [without(below(64), mask_of(res)); 64];
     find_outside(set, &allowed)
@@ -78,7 +78,7 @@ fn find_never_set(set: &[u64], res: Option<u8>) -> Option<Equation>
 fn find_foreign(set: &[u64], arrival: u8, parameters: u8) -> Option<Equation>
     requires len { length set.now ≡ 64 }
     requires slots { arrival + parameters ≤ 64 }
-    ensures* { λ r. ⌜ Finds (held set.now) (foreign arrival parameters) r ⌝ }
+    ensures { Finds (held set.now) (foreign arrival parameters) result }
 {
     let mut allowed = [empty(); 64];
     for i in 0..parameters {
@@ -92,7 +92,7 @@ fn ask_result(set: &[u64], n: usize, res: Option<u8>, m: u8) -> Option<Refusal>
     requires len { length set.now ≡ 64 }
     requires res { IfSome res (λ d. d < 64) }
     requires at { m < 64 }
-    ensures* { λ r. ⌜ Answered (questions_at n res m) (held set.now) r ⌝ }
+    ensures { Answered (questions_at n res m) (held set.now) result }
 {
     if let Some(e) = find_elsewhere(set, res, m) {
         return Some(Refusal::Elsewhere {
@@ -113,7 +113,7 @@ fn ask_result(set: &[u64], n: usize, res: Option<u8>, m: u8) -> Option<Refusal>
 
 // Whether the node is a `const` or an operation.
 fn is_computed(node: Node) -> bool
-    ensures* { λ r. ⌜ r ≡ computes (action node) ⌝ }
+    ensures { result ≡ computes (action node) }
 {
     match node {
         Node::Const { .. } => true,
@@ -130,7 +130,7 @@ fn ask_node(set: &[u64], n: usize, node: Node, target: Option<u8>) -> Option<Ref
     requires len { length set.now ≡ 64 }
     requires result { IfSome (result node) (λ d. d < 64) }
     requires target { IfSome target (λ m. m < 64) }
-    ensures* { λ r. ⌜ Answered (questions_of n node target) (held set.now) r ⌝ }
+    ensures { Answered (questions_of n node target) (held set.now) result }
 {
     let result = find_result(node);
     if let Some(m) = target {
@@ -153,7 +153,7 @@ fn ask_node(set: &[u64], n: usize, node: Node, target: Option<u8>) -> Option<Ref
 fn ask_nodes(nodes: &[Node], rows: &[Row], moves: &[Move], memory: &[u64]) -> Option<Refusal>
     requires reach { Reach nodes.now rows.now moves.now }
     requires room { 64 * length nodes.now ≤ length memory.now }
-    ensures* { λ r. ⌜ MatchOption r (PassedBelow nodes.now (λ k. line_at moves.now (row_at rows.now k)) (memory_sets memory.now) (length nodes.now)) (FailedNode nodes.now (λ k. line_at moves.now (row_at rows.now k)) (memory_sets memory.now)) ⌝ }
+    ensures { MatchOption result (PassedBelow nodes.now (λ k. line_at moves.now (row_at rows.now k)) (memory_sets memory.now) (length nodes.now)) (FailedNode nodes.now (λ k. line_at moves.now (row_at rows.now k)) (memory_sets memory.now)) }
 {
     let mut set = [0; 64];
     for n in 0..nodes.len() {
@@ -170,7 +170,7 @@ fn ask_entry(memory: &[u64], entry: &[Move], arrival: u8, parameters: u8) -> Opt
     requires moves { MovesReach entry.now }
     requires room { 64 ≤ length memory.now }
     requires slots { arrival + parameters ≤ 64 }
-    ensures* { λ r. ⌜ MatchOption r (Clear (back_moves entry.now (memory_sets memory.now 0)) (foreign arrival parameters)) (Fails (foreign_question arrival parameters) (back_moves entry.now (memory_sets memory.now 0))) ⌝ }
+    ensures { MatchOption result (Clear (back_moves entry.now (memory_sets memory.now 0)) (foreign arrival parameters)) (Fails (foreign_question arrival parameters) (back_moves entry.now (memory_sets memory.now 0))) }
 {
     let mut set = [0; 64];
     back_edge(&mut set, memory, 0, entry);
@@ -198,7 +198,7 @@ pub(crate) fn ask_all(
     requires room { 64 * length nodes.now ≤ length memory.now }
     requires entry { MovesReach entry.now }
     requires slots { arrival + parameters ≤ 64 }
-    ensures* { λ r. ⌜ Asked nodes.now (λ k. line_at moves.now (row_at rows.now k)) (memory_sets memory.now) entry.now (foreign_question arrival parameters) r ⌝ }
+    ensures { Asked nodes.now (λ k. line_at moves.now (row_at rows.now k)) (memory_sets memory.now) entry.now (foreign_question arrival parameters) result }
 {
     if let Some(refusal) = ask_nodes(nodes, rows, moves, memory) {
         return Some(refusal);
@@ -208,7 +208,7 @@ pub(crate) fn ask_all(
 
 // 32: whether the main line does what the node does, or is a `skip` that may stand there.
 fn matches(node: Node, main: Main) -> bool
-    ensures* { λ r. ⌜ MatchBool r (Matches node main) (Matches node main → ⊥) ⌝ }
+    ensures { MatchBool result (Matches node main) (Matches node main → ⊥) }
 {
     match (node, main) {
         (Node::Const { value: k, .. }, Main::Const { value: j, .. }) => k == j,
@@ -226,7 +226,7 @@ fn matches(node: Node, main: Main) -> bool
 // The first node whose main line does not match it.
 pub(crate) fn find_mismatch(nodes: &[Node], rows: &[Row], moves: &[Move]) -> Option<usize>
     requires { length rows.now ≡ length nodes.now }
-    ensures* { λ r. ⌜ MatchOption r (MatchesBelow nodes.now (λ k. line_at moves.now (row_at rows.now k)) (length nodes.now)) (MismatchedAt nodes.now (λ k. line_at moves.now (row_at rows.now k))) ⌝ }
+    ensures { MatchOption result (MatchesBelow nodes.now (λ k. line_at moves.now (row_at rows.now k)) (length nodes.now)) (MismatchedAt nodes.now (λ k. line_at moves.now (row_at rows.now k))) }
 {
     for n in 0..nodes.len() {
         if !matches(nodes[n], rows[n].main) {

@@ -1,3 +1,5 @@
+#![tactic(auto)]
+
 // Reads a source and an allocation from two files, and prints whether the allocation is accepted, or the refusal.
 use anyhow::anyhow;
 use loader::holder::Loader;

@@ -1,3 +1,5 @@
+#![tactic(auto)]
+
 // How an allocation is written, from a given place of the caller's buffer on. What each function writes, another counts first.
 ghost use Rattle.std.specs.Prelude.{◌≡◌, ◌+◌, ◌<◌, ◌≤◌, true, [], ◌∷◌, map, length, take};
 ghost use Rattle.text.specs.Parts.{ended, written};

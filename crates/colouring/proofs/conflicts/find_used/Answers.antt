@@ -1,6 +1,6 @@
 use Rattle.std.proofs.Common.{◌≡◌, ℕ, Bool, ◌||◌, Option, ap, ◌∙◌, ap₂, arith}
 use Rattle.sets.specs.Masks.{bit, names}
-use Rattle.source.specs.Nodes.{node_at, result}
+use Rattle.source.specs.Nodes.{node_at, result_of}
 use Rattle.source.proofs.Soundness.{all_sound}
 use Rattle.loader.specs.Live.{live_sets, is_result}
 use Rattle.colouring.proofs.Rows.{some_more, small, result-below}
@@ -9,7 +9,7 @@ use Rattle.colouring.proofs.conflicts.find_used.Goals as goal
 pub mask_of-requires : goal.mask_of-requires
 mask_of-requires c =
     let node = node_at c.args.nodes.now c.loop-n.n in
-    small c.args.heading.temporaries (result node) c.find_result.result (omega arith) c.find_result.ensures (result-below _ _ node (all_sound c.args.heading.temporaries c.args.nodes.now c.requires.sound c.loop-n.n (omega arith)))
+    small c.args.heading.temporaries (result_of node) c.find_result.result (omega arith) c.find_result.ensures (result-below _ _ node (all_sound c.args.heading.temporaries c.args.nodes.now c.requires.sound c.loop-n.n (omega arith)))
 
 pub loop-n-preserved : goal.loop-n-preserved
 loop-n-preserved c v =
