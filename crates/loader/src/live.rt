@@ -25,7 +25,7 @@ fn operand_set(node: Node) -> u64
 
 // The temporary that the node sets, if any.
 fn result_set(node: Node) -> u64
-    requires { IfSome (result node) (λ d. d < 64) }
+    requires { IfSome (result_of node) (λ d. d < 64) }
     ensures { (v : ℕ) → bit result v ≡ is_result node v }
 {
     match node {

@@ -2,7 +2,7 @@
 use Rattle.std.proofs.Common.{◌≡◌, ℕ, ◌+◌, ◌-◌, ◌<◌, ◌≤◌, Bool, true, false, ◌&&◌, ltb, leb, List, [], map, length, get_or, take, drop, sym, refl, ap, ◌∙◌, subst, arith}
 use lib.ListN.{get_or-map}
 use Rattle.std.specs.List.{between, AllByRecursion as All}
-use Rattle.std.proofs.lemmas.List.Edits.{length_between, get_or-between}
+use Rattle.std.proofs.lemmas.List.Edits.{length-between, get_or-between}
 use Rattle.std.proofs.lemmas.Bool.{and_parts}
 use Rattle.std.proofs.lemmas.Bool.Decides.{nat_tests}
 use Rattle.source.specs.Nodes.{sound, successor}
@@ -60,7 +60,7 @@ move_from r s m e = grind (arith, nat_tests)
 -- the moves of a part read cells that are there
 pub reads_part : (r s k : ℕ) (ms xs : List Move) (i j : ℕ) → xs ≡ between i j ms → MovesFit r s ms → r + s ≤ k → j ≤ length ms → ReadsBelow k xs
 reads_part r s k ms xs i j e fit w h n b =
-    let in-part : n < j - i = subst (λ (x : ℕ). n < x) (ap length e ∙ length_between ms i j h) b in
+    let in-part : n < j - i = subst (λ (x : ℕ). n < x) (ap length e ∙ length-between ms i j h) b in
     let low : (move_at ms (i + n)).from < r + s = move_from r s (move_at ms (i + n)) (fit (i + n) (omega arith)) in
     let same : move_at xs n ≡ move_at ms (i + n) = ap (λ ys. move_at ys n) e ∙ get_or-between ms i j n (record { to = 0; from = 0 }) (omega arith) in
     subst (λ (m : Move). m.from < k) (sym same) (omega arith)
@@ -70,7 +70,7 @@ line_is ms rows n = get_or-map (line_at ms) rows n (record { main = Skip; ins = 
 
 -- no part is longer than the table
 pub part_length : (ms xs : List Move) (i j : ℕ) → xs ≡ between i j ms → j ≤ length ms → length xs ≤ length ms
-part_length ms xs i j e h = subst (λ (x : ℕ). x ≤ length ms) (sym (ap length e ∙ length_between ms i j h)) (omega arith)
+part_length ms xs i j e h = subst (λ (x : ℕ). x ≤ length ms) (sym (ap length e ∙ length-between ms i j h)) (omega arith)
 
 pub edge_length : (r : ℕ) (ms xs : List Move) (row : Row) (e : Bool) → xs ≡ edge_moves (line_at ms row) e → RowFit r (length ms) row → length xs ≤ length ms
 edge_length r ms xs row true is f = part_length ms xs row.outs row.alts is (omega arith)

@@ -128,7 +128,7 @@ fn is_computed(node: Node) -> bool
 // The questions of a node over the set after it.
 fn ask_node(set: &[u64], n: usize, node: Node, target: Option<u8>) -> Option<Refusal>
     requires len { length set.now ≡ 64 }
-    requires result { IfSome (result node) (λ d. d < 64) }
+    requires result { IfSome (result_of node) (λ d. d < 64) }
     requires target { IfSome target (λ m. m < 64) }
     ensures { Answered (questions_of n node target) (held set.now) result }
 {

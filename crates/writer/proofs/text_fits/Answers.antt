@@ -12,7 +12,7 @@ returns-in_err-left c =
     let rs = c.args.rows.now in
     let ms = c.args.moves.now in
     let long = text_long h es rs ms in
-    c.from-residual.ensures
+    c.from_residual.ensures
     ∙ fits_neither c.args.room (length (head h es rs ms) + length (entry h es rs ms)) (length (lines h es rs ms)) (fits_neither c.args.room (length (head h es rs ms)) (length (entry h es rs ms)) c.in_err-left.ensures)
     ∙ ap (left_of c.args.room) (sym long)
 
@@ -23,7 +23,7 @@ returns-in_err-left-2 c =
     let rs = c.args.rows.now in
     let ms = c.args.moves.now in
     let long = text_long h es rs ms in
-    c.from-residual-in_err-left-2.ensures
+    c.from_residual-in_err-left-2.ensures
     ∙ fits_neither c.args.room (length (head h es rs ms) + length (entry h es rs ms)) (length (lines h es rs ms))
     (fits_then c.args.room (length (head h es rs ms)) c.in_ok-left.left (length (entry h es rs ms)) None c.in_ok-left.ensures c.in_err-left-2.ensures)
     ∙ ap (left_of c.args.room) (sym long)

@@ -16,12 +16,12 @@ loop-call-preserved g c =
     let x = get_or items i c.call-item.result in
     let within : i < length items = search rules in
     let read : x ≡ get_or items i x = get_or_default items i c.call-item.result x within in
-    serving_more g.V.Kind.arithmetic g.H.Host.means g.H.Host.state g.H.Host.lent g.F.Frame.cells g.P.Placer.places new c.deref-mut-call-items.result.now items i (held c.loop-call.engine) (held c.make.new.engine) x c.make.new.call c.loop-call.invariant within read
+    serving_more g.V.Kind.arithmetic g.H.Host.means g.H.Host.state g.H.Host.lent g.F.Frame.cells g.P.Placer.places new c.deref_mut-call-items.result.now items i (held c.loop-call.engine) (held c.make.new.engine) x c.make.new.call c.loop-call.invariant within read
     c.make.ensures
 
 pub returns : goal.returns
 returns g c =
-    let old = c.deref-mut-call-items.result.now in
+    let old = c.deref_mut-call-items.result.now in
     let items = c.loop-call.call-items in
     let i = c.loop-call.call-index in
     let inv = c.loop-call.invariant in
@@ -33,4 +33,4 @@ returns g c =
     let s : S old items = record { last = held c.loop-call.engine; lived = lived } in
     let all = c.args.calls.now.items in
     let n = c.args.calls.now.len in
-    record { served = subst (λ z. S z (take n (items ++ drop (length items) all))) c.deref-mut-call-items.ensures.value (subst (λ z. S old z) (sym (take_at items (drop (length items) all) n len)) s); refused = tt }
+    record { served = subst (λ z. S z (take n (items ++ drop (length items) all))) c.deref_mut-call-items.ensures.value (subst (λ z. S old z) (sym (take_at items (drop (length items) all) n len)) s); refused = tt }

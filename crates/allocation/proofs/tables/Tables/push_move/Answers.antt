@@ -7,37 +7,4 @@ pub invariant_of-self : goal.invariant_of-self
 invariant_of-self c =
     let t = c.args.self.now in
     let h = t.heading in
-    let long : length (vec_items c.push_reserved.new.self) ≡ length (vec_items t.moves) + 1 = ap length c.push_reserved.ensures.items ∙ length_push _ _ in (
-      omega arith,
-      (
-        omega arith,
-        (
-          omega arith,
-          (
-            omega arith,
-            (
-              omega arith,
-              (
-                omega arith,
-                (
-                  omega arith,
-                  (
-                    omega arith,
-                    (
-                      omega arith,
-                      (
-                        rows_longer h.registers (length (vec_items t.moves)) (vec_items t.rows) _ t.rows_fit (omega arith),
-                        (
-                          moves_push h.registers h.slots (vec_items t.moves) c.args.m _ t.moves_fit c.requires.fits c.push_reserved.ensures.items,
-                          tt,
-                        ),
-                      ),
-                    ),
-                  ),
-                ),
-              ),
-            ),
-          ),
-        ),
-      ),
-    )
+    let long : length (vec_items c.push_reserved.new.self) ≡ length (vec_items t.moves) + 1 = ap length c.push_reserved.ensures.items ∙ length_push _ _ in record { row_room = omega arith; move_room = omega arith; row_len = omega arith; move_len = omega arith; few_rows = omega arith; few_moves = omega arith; few_registers = omega arith; few_slots = omega arith; entry_within = omega arith; rows_fit = rows_longer h.registers (length (vec_items t.moves)) (vec_items t.rows) _ t.rows_fit (omega arith); moves_fit = moves_push h.registers h.slots (vec_items t.moves) c.args.m _ t.moves_fit c.requires.fits c.push_reserved.ensures.items }

@@ -7,37 +7,4 @@ pub invariant_of-self : goal.invariant_of-self
 invariant_of-self c =
     let t = c.args.self.now in
     let h = t.heading in
-    let long : length (vec_items c.push_reserved.new.self) ≡ length (vec_items t.rows) + 1 = ap length c.push_reserved.ensures.items ∙ length_push _ _ in (
-      omega arith,
-      (
-        omega arith,
-        (
-          omega arith,
-          (
-            omega arith,
-            (
-              omega arith,
-              (
-                omega arith,
-                (
-                  omega arith,
-                  (
-                    omega arith,
-                    (
-                      omega arith,
-                      (
-                        rows-push h.registers (length (vec_items t.moves)) (vec_items t.rows) c.args.row _ t.rows_fit c.requires.fits c.push_reserved.ensures.items,
-                        (
-                          t.moves_fit,
-                          tt,
-                        ),
-                      ),
-                    ),
-                  ),
-                ),
-              ),
-            ),
-          ),
-        ),
-      ),
-    )
+    let long : length (vec_items c.push_reserved.new.self) ≡ length (vec_items t.rows) + 1 = ap length c.push_reserved.ensures.items ∙ length_push _ _ in record { row_room = omega arith; move_room = omega arith; row_len = omega arith; move_len = omega arith; few_rows = omega arith; few_moves = omega arith; few_registers = omega arith; few_slots = omega arith; entry_within = omega arith; rows_fit = rows-push h.registers (length (vec_items t.moves)) (vec_items t.rows) c.args.row _ t.rows_fit c.requires.fits c.push_reserved.ensures.items; moves_fit = t.moves_fit }

@@ -12,9 +12,8 @@ returns-in_default c = none_offered (held c.args.self.now) c.args.text.now c.arg
 pub invariant_of-self-in-Ok : goal.invariant_of-self-in-Ok
 invariant_of-self-in-Ok c =
     let e = c.args.self.now in
-    let h = c.in-Some.heading in (
-      stands h e.loader.tables.nodes c.copy_from.new.self c.offer.new.spare.tables c.exchange.new.tables _
+    let h = c.in-Some.heading in record {
+      accepted = stands h e.loader.tables.nodes c.copy_from.new.self c.offer.new.spare.tables c.exchange.new.tables _
           (c.copy_from.ensures ∙ ap nodes_in c.table.ensures.table) c.exchange.ensures.given
-          (offer_stands e.loader.loaded h e.loader.tables.nodes c.args.text.now c.args.memory.now _ _ c.in-Ok.count (sym c.in-Some.ensures) c.in-Ok.ensures),
-      tt,
-    )
+          (offer_stands e.loader.loaded h e.loader.tables.nodes c.args.text.now c.args.memory.now _ _ c.in-Ok.count (sym c.in-Some.ensures) c.in-Ok.ensures);
+    }

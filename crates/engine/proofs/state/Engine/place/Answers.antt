@@ -13,8 +13,7 @@ returns-in_default g c =
 pub invariant_of-self-in-Ok : goal.invariant_of-self-in-Ok
 invariant_of-self-in-Ok g c =
     let e = c.args.self.now in
-    let h = c.in-Some.heading in (
-      stands h e.loader.tables.nodes c.copy_from.new.self c.place.new.spare c.swap.new.y _ (c.copy_from.ensures ∙ ap nodes_in c.table-accepted.ensures.table) c.swap.ensures.y-after
-          (place_stands (g.P.Placer.places c.args.placer.now) e.loader.loaded h e.loader.tables.nodes (live_words e.loader) c.args.registers c.args.memory.now _ _ c.in-Ok.count (sym c.in-Some.ensures) c.in-Ok.ensures),
-      tt,
-    )
+    let h = c.in-Some.heading in record {
+      accepted = stands h e.loader.tables.nodes c.copy_from.new.self c.place.new.spare c.swap.new.y _ (c.copy_from.ensures ∙ ap nodes_in c.table-accepted.ensures.table) c.swap.ensures.y_after
+          (place_stands (g.P.Placer.places c.args.placer.now) e.loader.loaded h e.loader.tables.nodes (live_words e.loader) c.args.registers c.args.memory.now _ _ c.in-Ok.count (sym c.in-Some.ensures) c.in-Ok.ensures);
+    }

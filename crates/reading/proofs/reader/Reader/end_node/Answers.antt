@@ -12,7 +12,7 @@ invariant_of-self c =
     let e = c.push_row.ensures in
     let rows : length (rows_in c.push_row.new.self) ≡ length (rows_in r.tables) + 1 = ap length e.rows ∙ length_push _ _ in
     let moves : length (moves_in c.push_row.new.self) ≡ length (moves_in r.tables) = ap length e.moves in
-    (omega arith, (omega arith, (omega arith, (ap (λ h. main_line_fits h.registers r.main) e.heading ∙ r.main_fits, (omega arith, tt)))))
+    record { ins_first = omega arith; outs_next = omega arith; alts_last = omega arith; main_fits = ap (λ h. main_line_fits h.registers r.main) e.heading ∙ r.main_fits; row_left = omega arith }
 
 pub returns : goal.returns
 returns c =
