@@ -1,10 +1,10 @@
 -- Reading and writing a heading undo each other.
-use Rattle.std.proofs.Common.{◌≡◌, ℕ, ◌+◌, ◌^◌, ◌<◌, ◌≤◌, min, Bool, true, false, cond, eqb, List, [], ◌∷◌, map, length, Some, None, codes, decimal, Option, sym, refl, ap, ◌∙◌, subst, arith}
+use Rattle.std.proofs.Common.{◌≡◌, ℕ, ◌^◌, ◌<◌, ◌≤◌, min, false, eqb, List, [], ◌∷◌, map, length, Some, None, codes, decimal, Option, sym, refl, ap, ◌∙◌, subst, arith}
 use native.Mathlib.Nat.{min-le_left, min-le_right, min-eq_left}
-use Rattle.std.proofs.lemmas.Bool.{cond-true, cond-false, ne_eqb}
+use Rattle.std.proofs.lemmas.Bool.{cond-false, ne_eqb}
 use Rattle.std.specs.Option.{option_map}
 use Rattle.text.specs.Words.{named}
-use Rattle.text.specs.Fields.{Shape, word, shape_of, number_between, word_in, and_then}
+use Rattle.text.specs.Fields.{word, shape_of, number_between, word_in, and_then}
 use Rattle.text.proofs.TextLaws.{Lacks, AllLack, Plain}
 use Rattle.text.proofs.FieldLaws.{Inverse, mapped_some, between_inverse, word_inverse}
 use Rattle.text.proofs.Saying.{and_then-some}

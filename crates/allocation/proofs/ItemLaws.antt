@@ -18,7 +18,6 @@ use Rattle.source.specs.declared.node.Condition.{Condition}
 use Rattle.source.specs.declared.node.Condition.TheVariants.{Eq, Lt, Le}
 use Rattle.source.specs.Words.{condition_name, conditions}
 use Rattle.allocation.specs.declared.heading.Heading.{Heading}
-use Rattle.allocation.specs.declared.line.Main.{Main}
 use Rattle.allocation.specs.declared.line.Main.TheVariants as main
 use Rattle.allocation.specs.declared.words.Edge.{Edge}
 use Rattle.allocation.specs.declared.words.Edge.TheVariants.{Entry, In, Out, Alt}
@@ -27,9 +26,9 @@ use Rattle.allocation.specs.declared.words.Word.TheVariants.{Move, Skip, Const, 
 use Rattle.allocation.specs.declared.item.Item.{Item}
 use Rattle.allocation.specs.declared.item.Item.TheVariants as item
 use Rattle.allocation.specs.Words.{edge_name, word_name, words}
-use Rattle.allocation.specs.Ranges.{move_fits, main_line_fits, item_fits}
+use Rattle.allocation.specs.Ranges.{item_fits}
 use Rattle.allocation.specs.Items.{below, location_in, register_in, moved, arity, move_of, const_of, binary_of, call_of, branch_of, return_of, operands_of, by_word, by_first, item_of}
-use Rattle.allocation.specs.Rendering.{register_name, location_name, move_fields, main_fields, item_fields}
+use Rattle.allocation.specs.Rendering.{register_name, location_name, item_fields}
 
 -- the words
 

@@ -1,5 +1,5 @@
 -- The heading of an allocation text.
-use Rattle.std.specs.Prelude.{ℕ, min, cond, List, length, Some, None, Option, ◌==◌}
+use Rattle.std.specs.Prelude.{ℕ, min, cond, List, length, None, Option, ◌==◌}
 use Rattle.std.specs.Option.{option_map}
 use Rattle.text.specs.Fields.{Shape, number_between, word_in, at, and_then}
 use Rattle.allocation.specs.declared.heading.Heading.{Heading}

@@ -1,5 +1,5 @@
 -- What one line of an allocation text after its heading says.
-use Rattle.std.specs.Prelude.{ℕ, ◌+◌, ◌^◌, cond, ◌||◌, List, [], ◌∷◌, map, length, Some, None, Ok, Err, Option, Result, ◌==◌, nat_lt}
+use Rattle.std.specs.Prelude.{ℕ, ◌+◌, ◌^◌, cond, ◌||◌, List, [], ◌∷◌, map, length, Some, None, Err, Option, Result, ◌==◌, nat_lt}
 use Rattle.std.specs.Option.{option_map, ok_or}
 use Rattle.text.specs.Fields.{Shape, word, number, location, shape_of, number_below, word_in, at, and_then}
 use Rattle.text.specs.declared.fields.Location.TheVariants.{Register, Slot}

@@ -1,6 +1,6 @@
 -- What the lines of an allocation do, and how many moves they have.
 use Rattle.std.specs.Prelude.{ℕ, ◌+◌, Bool, cond, List, [], ◌∷◌, length, Some, None, Option, slice_index_or}
-use Rattle.source.specs.Nodes.{Action, const, mov, binary, call, branch, return}
+use Rattle.source.specs.Nodes.{Action, const, binary, call, branch, return}
 use Rattle.allocation.specs.declared.line.Move.{Move}
 use Rattle.allocation.specs.declared.line.Main.{Main}
 use Rattle.allocation.specs.declared.line.Main.TheVariants.{Skip, Const, Binary, Call, Branch, Return}

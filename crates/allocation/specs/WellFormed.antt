@@ -1,5 +1,5 @@
 -- Allocations that have a text.
-use Rattle.std.specs.Prelude.{◌≡◌, ℕ, ◌<◌, ◌≤◌, true, List, [], ◌∷◌, length}
+use Rattle.std.specs.Prelude.{◌≡◌, ℕ, ◌<◌, ◌≤◌, true, List, [], length}
 use Rattle.std.specs.List.{AllByRecursion as All}
 use Rattle.allocation.specs.declared.line.Move.{Move}
 use Rattle.allocation.specs.declared.line.Main.{Main}

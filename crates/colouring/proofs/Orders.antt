@@ -1,17 +1,16 @@
 -- Colouring by recursion gives places by an order of removal.
-use Rattle.std.proofs.Common.{◌≡◌, ℕ, zero, suc, ◌+◌, ◌-◌, ◌<◌, ◌≤◌, Bool, true, false, cond, not, ◌&&◌, ◌||◌, eqb, ltb, ◌⊎◌, List, [], ◌∷◌, length, get_or, take, drop, set, replicate, Some, None, Option, sym, refl, ap, ◌∙◌, subst, ap₂, inl, inr, arith, length-set}
+use Rattle.std.proofs.Common.{◌≡◌, ℕ, zero, suc, ◌+◌, ◌-◌, ◌<◌, ◌≤◌, Bool, true, false, cond, not, ◌&&◌, ◌||◌, eqb, List, [], ◌∷◌, length, get_or, take, drop, set, replicate, Some, None, Option, sym, refl, ap, ◌∙◌, subst, ap₂, inl, inr, arith, length-set}
 use mathlib.Core.Path.{fun_ext}
 use mathlib.Core.Bool.{and-true, and-false}
 use lib.Dec.{eqb-suc-zero, eqb-zero-suc, eqb-suc-suc}
 use lib.ListN.{length-replicate}
-use Rattle.std.proofs.lemmas.List.{get_or-replicate, get_or-set_same, get_or-set_other, get_or_past, get_or_default, same_lists}
-use Rattle.std.proofs.lemmas.Bool.{or_cases, or_parts, or_from, or_left, or_right, and_parts, and_from, cases_eq, cases_Bool, both_ways, not-true, not_from_false, eq-eqb, ne_eqb, eqb-true, eqb-false}
+use Rattle.std.proofs.lemmas.List.{get_or-replicate, get_or-set_same, get_or-set_other, get_or_default, same_lists}
+use Rattle.std.proofs.lemmas.Bool.{or_cases, or_parts, or_from, or_left, or_right, and_parts, cases_eq, both_ways, not-true, eq-eqb, ne_eqb, eqb-true, eqb-false}
 use Rattle.places.specs.declared.place.Place.{Place}
-use Rattle.places.specs.declared.place.Place.TheVariants.{Register, Home}
-use Rattle.source.specs.Reading.{Source}
+use Rattle.places.specs.declared.place.Place.TheVariants.{Home}
 use Rattle.sets.specs.Masks.{count}
 use Rattle.colouring.specs.Colouring.{some, or_else, lowest_of, busiest_of, degree, under, holds, held, to_place, less, next, chosen, after, coloured, conflict, used}
-use Rattle.colouring.specs.Chosen.{IsLowest, IsBusiest, Busiest, member, left_after, IsNext, Coloured, ColouringByOrder}
+use Rattle.colouring.specs.Chosen.{IsLowest, IsBusiest, member, left_after, IsNext, Coloured, ColouringByOrder}
 use Rattle.colouring.specs.Searches.{some_same, count_below, lowest_is, lowest_one, busiest_is, busiest_one}
 
 -- a temporary of a list, in conflict with v, holds register r

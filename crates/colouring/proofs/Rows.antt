@@ -1,14 +1,14 @@
 -- Tables of conflicts, by the bits of their words.
-use Rattle.std.proofs.Common.{◌≡◌, ℕ, suc, ◌+◌, ◌%◌, ◌^◌, ◌<◌, ◌≤◌, Bool, true, false, not, ◌&&◌, ◌||◌, eqb, ltb, ◌⊎◌, List, length, get_or, set, replicate, IfSome, Some, None, Option, sym, refl, ap, ◌∙◌, ap₂, inl, inr, add-one, arith}
-use Rattle.std.proofs.lemmas.List.{get_or-set_same, get_or-set_other, get_or_past, get_or_default}
-use Rattle.std.proofs.lemmas.Bool.{cases_eq, cases_lt, eq-eqb, ne_eqb, and_left, and_right, and_from, le-ltb, lt-ltb, or_from}
+use Rattle.std.proofs.Common.{◌≡◌, ℕ, ◌+◌, ◌%◌, ◌^◌, ◌<◌, ◌≤◌, Bool, true, false, not, ◌&&◌, ◌||◌, eqb, ltb, ◌⊎◌, List, length, get_or, set, replicate, IfSome, Some, None, Option, sym, refl, ap, ◌∙◌, ap₂, inl, inr, add-one, arith}
+use Rattle.std.proofs.lemmas.List.{get_or-set_same, get_or-set_other, get_or_past}
+use Rattle.std.proofs.lemmas.Bool.{cases_eq, cases_lt, eq-eqb, ne_eqb, and_left, and_right, lt-ltb, or_from}
 use Rattle.sets.specs.Masks.{bit, names}
 use Rattle.sets.proofs.Masks.{bit-zero, bit_high}
 use Rattle.sets.proofs.Turns.{zeros_at}
-use Rattle.source.specs.Nodes.{result_of, node_at, Sound}
+use Rattle.source.specs.Nodes.{result_of, Sound}
 use Rattle.source.specs.declared.node.Node.{Node}
 use Rattle.source.specs.declared.node.Node.TheVariants.{Const, Mov, Binary, Call, Branch, Return}
-use Rattle.loader.specs.Live.{out_of, is_result, live_sets}
+use Rattle.loader.specs.Live.{out_of, is_result}
 use Rattle.places.specs.Places.{copied}
 use Rattle.colouring.specs.Colouring.{some, demands, apart, rows}
 

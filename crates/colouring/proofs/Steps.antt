@@ -1,12 +1,12 @@
 -- The steps of colouring.
-use Rattle.std.proofs.Common.{◌≡◌, ℕ, zero, suc, ◌-◌, ◌%◌, ◌<◌, ◌≤◌, Bool, true, false, cond, not, ◌&&◌, eqb, ltb, List, length, get_or, set, replicate, IfSome, Some, None, Option, sym, refl, ap, ◌∙◌, ap₂, inl, inr, arith, MatchOption}
+use Rattle.std.proofs.Common.{◌≡◌, ℕ, zero, suc, ◌-◌, ◌%◌, ◌<◌, ◌≤◌, Bool, true, false, not, ◌&&◌, eqb, ltb, List, get_or, set, replicate, IfSome, Some, None, Option, sym, refl, ap, ◌∙◌, ap₂, arith, MatchOption}
 use mathlib.Core.Path.{fun_ext}
 use Rattle.std.proofs.lemmas.Bool.{and_left}
-use Rattle.sets.specs.Masks.{bit, count, First}
+use Rattle.sets.specs.Masks.{count, First}
 use Rattle.sets.proofs.Masks.{count_same, count_cut}
 use Rattle.places.specs.declared.place.Place.{Place}
-use Rattle.places.specs.declared.place.Place.TheVariants.{Home, Register}
-use Rattle.colouring.specs.Colouring.{some, or_else, lowest_of, busiest_of, less, degree, under, next, held, holds, chosen, after, coloured, to_place}
+use Rattle.places.specs.declared.place.Place.TheVariants.{Home}
+use Rattle.colouring.specs.Colouring.{or_else, lowest_of, less, degree, under, next, held, holds, chosen, after, coloured, to_place}
 use Rattle.colouring.specs.Chosen.{IsLowest}
 use Rattle.colouring.specs.Searches.{some_same, count_below, lowest_same, lowest_found, busiest_same, next_within}
 

@@ -1,5 +1,5 @@
 -- Places by colouring: which temporaries conflict, in which order they are removed, and which register each takes.
-use Rattle.std.specs.Prelude.{ℕ, zero, suc, ◌-◌, Bool, true, false, cond, not, ◌&&◌, ◌||◌, List, length, set, replicate, Some, None, Option, ◌==◌, nat_lt, slice_index, slice_index_or, slice_set}
+use Rattle.std.specs.Prelude.{ℕ, zero, suc, ◌-◌, Bool, false, cond, not, ◌&&◌, ◌||◌, List, length, replicate, Some, None, Option, ◌==◌, nat_lt, slice_index, slice_index_or, slice_set}
 use Rattle.sets.specs.Masks.{bit, count, names}
 use Rattle.source.specs.Nodes.{node_at}
 use Rattle.source.specs.Reading.{Source}

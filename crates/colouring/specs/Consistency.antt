@@ -1,17 +1,17 @@
 -- Coloured places are consistent.
-use Rattle.std.specs.Prelude.{◌≡◌, ℕ, zero, suc, ◌+◌, ◌-◌, ◌<◌, ◌≤◌, Bool, true, false, cond, not, ◌&&◌, ◌||◌, ◌⊎◌, List, [], ◌∷◌, length, get_or, replicate, IfSome, Some, None, Option, ◌≢◌, slice_index_or, slice_set, refl}
+use Rattle.std.specs.Prelude.{◌≡◌, ℕ, zero, suc, ◌-◌, ◌<◌, ◌≤◌, Bool, true, false, not, ◌&&◌, ◌||◌, ◌⊎◌, List, length, get_or, replicate, IfSome, Some, None, Option, ◌≢◌, slice_index_or, slice_set, refl}
 use Rattle.std.proofs.Common.{sym, ap, subst, ◌∙◌, inl, inr, arith, length-set}
-use Rattle.std.proofs.lemmas.List.{get_or-replicate, get_or-set_same, get_or-set_other, get_or_past, length-replicate}
-use Rattle.std.proofs.lemmas.Bool.{or_cases, or_parts, or_from, or_left, or_right, and_parts, and_from, and_left, and_right, cases_eq, cases_lt, ltb-true, lt-ltb, both_ways, not-true, not_from_false, eq-eqb, ne_eqb, eqb-true}
+use Rattle.std.proofs.lemmas.List.{get_or-set_same, get_or-set_other, get_or_past, length-replicate}
+use Rattle.std.proofs.lemmas.Bool.{or_cases, or_left, or_right, and_parts, and_from, and_left, and_right, cases_eq, cases_lt, lt-ltb, both_ways, not-true, not_from_false, eq-eqb, ne_eqb}
 use Rattle.sets.specs.Masks.{names}
 use Rattle.source.specs.Nodes.{result_of, node_at}
 use Rattle.loader.specs.Live.{out_of, is_result}
 use Rattle.places.specs.declared.place.Place.{Place}
 use Rattle.places.specs.declared.place.Place.TheVariants.{Register, Home}
 use Rattle.source.specs.Reading.{Source}
-use Rattle.places.specs.Places.{IsPlace, Consistent, location, locations, copied, Unused, Owed}
+use Rattle.places.specs.Places.{IsPlace, Consistent, location, locations, copied, Owed}
 use Rattle.places.specs.Homes.{getD_homes}
-use Rattle.colouring.specs.Colouring.{some, lowest_of, demands, demanded, arrives, conflict, used, holds, held, to_place, less, next, chosen, after, coloured, colouring}
+use Rattle.colouring.specs.Colouring.{lowest_of, demands, demanded, arrives, conflict, used, holds, held, to_place, less, next, chosen, after, coloured, colouring}
 use Rattle.colouring.specs.Chosen.{IsLowest}
 use Rattle.colouring.specs.Searches.{some_false, some_none, some_true, lowest_is, next_within}
 

@@ -1,8 +1,8 @@
 -- The searches of the definitions find what the relations say.
 use Rattle.std.specs.Prelude.{◌≡◌, ℕ, zero, suc, ◌+◌, ◌<◌, ◌≤◌, Bool, true, false, cond, ◌&&◌, ◌||◌, ltb, IfSome, Some, None, Option, nat_lt, refl}
 use Rattle.std.proofs.Common.{sym, ap, ap₂, subst, ◌∙◌, inl, inr, arith}
-use Rattle.std.proofs.lemmas.Bool.{or_cases, or_parts, or_left, or_right, and_parts, cases_eq, cases_order, ltb-true, ltb-false, both_ways}
-use Rattle.sets.specs.Masks.{count, First}
+use Rattle.std.proofs.lemmas.Bool.{or_parts, or_left, or_right, and_parts, cases_eq, cases_order, ltb-true, ltb-false, both_ways}
+use Rattle.sets.specs.Masks.{count}
 use Rattle.sets.proofs.Masks.{first_unique}
 use Rattle.colouring.specs.Colouring.{some, only, or_else, lowest_of, better, busiest_of, degree, under, next}
 use Rattle.colouring.specs.Chosen.{IsLowest, Busiest, IsBusiest}

@@ -1,8 +1,7 @@
 -- Each call has one answer.
-use Rattle.std.proofs.Common.{◌≡◌, ℕ, ◌+◌, ◌*◌, ◌<◌, ◌≤◌, Bool, true, false, ◌⊎◌, List, [], ◌∷◌, length, get_or, Some, None, Ok, Err, Option, Result, sym, refl, ap, ◌∙◌, subst, ap₂, inl, inr, arith}
+use Rattle.std.proofs.Common.{◌≡◌, ℕ, Bool, true, false, List, [], length, Some, None, Ok, Err, Option, Result, sym, ap, ◌∙◌, subst, inl, inr, arith}
 use Rattle.std.proofs.lemmas.List.{get_or_past}
 use Rattle.std.proofs.lemmas.Bool.{cases_lt}
-use Rattle.std.specs.Option.{option_map}
 use Rattle.refusal.specs.declared.Refusal.{Refusal}
 use Rattle.sets.specs.Masks.{bit}
 use Rattle.source.specs.Reading.{Source}
@@ -11,23 +10,21 @@ use Rattle.loader.proofs.Answered.{one_answer}
 use Rattle.loader.proofs.Flow.{liveness_unique}
 use Rattle.allocation.specs.Allocations.{Allocation}
 use Rattle.allocation.specs.Lines.{move_count}
-use Rattle.allocation.specs.Rendering.{render}
-use Rattle.reading.specs.Reading.{read_allocation}
 use Rattle.equations.specs.Equations.{memory_sets}
 use Rattle.equations.specs.Verdict.{Accepted, Refused}
 use Rattle.verdict.proofs.Unique.{one_verdict_lem}
 use Rattle.offer.specs.Offers.{Offered}
 use Rattle.places.specs.declared.place.Place.{Place}
 use Rattle.places.specs.Publish.{published_allocation}
-use Rattle.placement.specs.Placements.{Enough, published, Placed}
+use Rattle.placement.specs.Placements.{Placed}
 use Rattle.values.specs.Kinds.{Arithmetic}
 use Rattle.values.specs.Hosts.{Answers}
 use Rattle.machine.specs.declared.outcome.Entry.{Entry}
 use Rattle.machine.specs.declared.outcome.Report.{Report}
-use Rattle.machine.specs.Machine.{Ending, Cells, allocated_run}
-use Rattle.machine.specs.Run.{Answered, Finished, Untouched, refusal_of}
+use Rattle.machine.specs.Machine.{Ending, Cells}
+use Rattle.machine.specs.Run.{Answered, Finished}
 use Rattle.engine.specs.Plain.{Standing, Plain, with_source, settled}
-use Rattle.engine.specs.Calls.{LoadMade, OfferMade, PlaceMade, RunMade, RunStanding, RunRefused, WriteMade}
+use Rattle.engine.specs.Calls.{LoadMade, OfferMade, PlaceMade, WriteMade}
 use Rattle.determinacy.specs.Laws.{OneAnswerEach, SameRun, OneRun}
 
 ok_err : {A B : Type 0} {x : A} {e : B} → Ok x ≡ Err e → ⊥

@@ -1,16 +1,16 @@
 -- What a host has come to is told by the transcript: so two runs with one transcript leave the host in one state.
-use Rattle.std.proofs.Common.{◌≡◌, ℕ, zero, suc, Bool, true, false, List, [], ◌∷◌, ◌++◌, map, Some, None, Option, sym, refl, ap, ◌∙◌, subst}
+use Rattle.std.proofs.Common.{◌≡◌, ℕ, zero, suc, Bool, true, false, List, [], ◌∷◌, ◌++◌, Some, None, Option, sym, refl, ap, ◌∙◌}
 use Rattle.source.specs.Nodes.{Action, const, mov, binary, call, branch, return, action, node_at, successor}
 use Rattle.source.specs.Reading.{Source}
 use Rattle.source.specs.declared.node.Node.{Node}
-use Rattle.allocation.specs.Allocations.{Line, Allocation, target, origins}
-use Rattle.allocation.specs.Lines.{main_action, edge_moves, line_of}
+use Rattle.allocation.specs.Allocations.{Allocation}
+use Rattle.allocation.specs.Lines.{main_action, line_of}
 use Rattle.values.specs.Kinds.{Arithmetic}
 use Rattle.values.specs.Hosts.{Answers}
 use Rattle.machine.specs.declared.outcome.Entry.{Entry}
 use Rattle.machine.specs.declared.outcome.Taken.{Taken}
 use Rattle.machine.specs.declared.outcome.Outcome.{Outcome}
-use Rattle.machine.specs.Machine.{Log, Ending, Progress, goes, ends, after, drive, effect, passed, carried, read, store, assign, Cells, move_all, carry_line, full, source_step, source_from, source_run, start, given, allocated_step, allocated_run, entered}
+use Rattle.machine.specs.Machine.{Log, Ending, Progress, goes, ends, after, drive, effect, passed, carried, full, source_step, source_run, start, given, allocated_step, allocated_run, entered}
 
 module _ {V S : Type 0} (K : Arithmetic V) (E : Answers S V) where
   abbrev either : {M : Type 0} → Ending V S M → Ending V S M → Bool → Ending V S M

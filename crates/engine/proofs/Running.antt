@@ -1,5 +1,5 @@
 -- What stands can be run, and its runs keep the promise.
-use Rattle.std.proofs.Common.{◌≡◌, ℕ, ◌+◌, ◌*◌, ◌<◌, ◌≤◌, Bool, true, false, cond, eqb, leb, ◌⊎◌, List, map, length, take, Some, None, Ok, Err, Option, Result, sym, refl, ap, ◌∙◌, subst, subst₂, inl, inr, arith}
+use Rattle.std.proofs.Common.{◌≡◌, ℕ, ◌+◌, ◌<◌, ◌≤◌, Bool, true, false, cond, eqb, leb, ◌⊎◌, List, map, length, take, Some, None, Ok, Err, Result, sym, refl, ap, ◌∙◌, subst, subst₂, inl, inr, arith}
 use mathlib.Core.Bool.{Bool-set}
 use mathlib.Core.Logic.{∥∥₁_elim, ∥∥₁_map}
 use base.Stored.{Coded, Coded-set, coded_unit, coded_ℕ, coded×, coded⊎, coded_list, coded_via}
@@ -32,9 +32,8 @@ use Rattle.soundness.proofs.Located.{tables_located}
 use Rattle.soundness.proofs.Simulation.{runs_as_source}
 use Rattle.soundness.proofs.Asking.{accepted_asks_lem}
 use Rattle.soundness.proofs.Counting.{few_moves_a_node_lem}
-use Rattle.engine.specs.Plain.{Standing}
 use Rattle.engine.specs.Stands.{Stands}
-use Rattle.engine.specs.Calls.{AsSource, KeptPromise, Promised, RunStanding}
+use Rattle.engine.specs.Calls.{KeptPromise, RunStanding}
 use Rattle.engine.proofs.Hosts.{tells, source_told, allocated_told}
 
 module _ (h : Heading) (table : Table) (t : Tables) (placed : Bool) (st : ∥ Stands (source_in h table) (allocation_of t) placed ∥₁) where

@@ -1,8 +1,7 @@
 -- What is accepted stands, and what is refused changes nothing.
-use Rattle.std.proofs.Common.{◌≡◌, ℕ, Bool, true, false, List, [], Some, None, Ok, Err, Option, Result, sym, refl, ap, ◌∙◌, subst, subst₂}
+use Rattle.std.proofs.Common.{◌≡◌, ℕ, Bool, true, false, List, [], Some, None, Ok, Err, Option, sym, refl, ap, subst, subst₂}
 use Rattle.std.proofs.lemmas.Bool.{both_ways}
 use Rattle.std.specs.Option.{option_map}
-use Rattle.refusal.specs.declared.Refusal.{Refusal}
 use Rattle.refusal.specs.declared.Refusal.TheVariants.{NoSource, Unplaced}
 use Rattle.source.specs.declared.heading.Heading.{Heading}
 use Rattle.source.specs.declared.node.Node.{Node}
@@ -15,7 +14,7 @@ use Rattle.offer.specs.Offers.{Offered}
 use Rattle.places.specs.declared.place.Place.{Place}
 use Rattle.placement.specs.Placements.{Placed}
 use Rattle.engine.specs.declared.standing.Standing as standing
-use Rattle.engine.specs.Plain.{Standing, Plain, with_standing, settled}
+use Rattle.engine.specs.Plain.{Plain}
 use Rattle.engine.specs.Stands.{Stands}
 use Rattle.engine.specs.Calls.{OfferMade, PlaceMade}
 

@@ -1,5 +1,5 @@
 -- The plain engine: what it holds.
-use Rattle.std.specs.Prelude.{◌≡◌, ℕ, Bool, true, Some, None, Ok, Err, Option, Result}
+use Rattle.std.specs.Prelude.{ℕ, Bool, Some, None, Ok, Err, Option, Result}
 use Rattle.std.specs.Option.{option_map}
 use Rattle.refusal.specs.declared.Refusal.{Refusal}
 use Rattle.source.specs.Reading.{Source}

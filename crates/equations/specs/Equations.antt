@@ -1,6 +1,6 @@
 -- Equations: e says that location e .0 and temporary e .1 hold the same value. How sets of them are taken back over
 -- moves, main lines and nodes, and the least sets before all nodes.
-use Rattle.std.specs.Prelude.{ℕ, ◌+◌, ◌*◌, Bool, false, cond, not, ◌&&◌, ◌||◌, List, [], ◌∷◌, length, Some, None, Option, ◌==◌, nat_lt, slice_index}
+use Rattle.std.specs.Prelude.{ℕ, ◌+◌, ◌*◌, Bool, not, ◌&&◌, ◌||◌, List, [], ◌∷◌, length, Some, None, Option, ◌==◌, nat_lt, slice_index}
 use Rattle.allocation.specs.Lines.{edge_moves, line_of}
 use Rattle.sets.specs.Masks.{bit, any, names}
 use Rattle.sets.specs.Least.{Least}
@@ -11,7 +11,6 @@ use Rattle.source.specs.declared.node.Node.TheVariants.{Const, Mov, Binary, Call
 use Rattle.allocation.specs.Allocations.{Line, Allocation, target, origins}
 use Rattle.allocation.specs.declared.line.Move.{Move}
 use Rattle.allocation.specs.declared.line.Main.{Main}
-use Rattle.allocation.specs.declared.line.Main.TheVariants.{Skip}
 
 -- back over a move: each (v, destination) becomes (v, origin)
 unfoldable pub back_move : Move → (ℕ × ℕ → Bool) → ℕ × ℕ → Bool

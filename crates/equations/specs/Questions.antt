@@ -9,7 +9,6 @@ use Rattle.source.specs.Reading.{Source}
 use Rattle.source.specs.declared.node.Node.{Node}
 use Rattle.allocation.specs.Allocations.{Allocation, target}
 use Rattle.allocation.specs.declared.line.Main.{Main}
-use Rattle.allocation.specs.declared.line.Main.TheVariants.{Skip, Const, Binary, Call, Branch, Return}
 
 -- `const` and operations
 abbrev pub computes : Action → Bool

@@ -1,12 +1,12 @@
 -- What a load that is granted leaves.
-use Rattle.std.proofs.Common.{◌≡◌, ℕ, List, length, Ok, vec_items, sym, refl, ap, ◌∙◌, subst}
+use Rattle.std.proofs.Common.{◌≡◌, ℕ, List, length, Ok, vec_items, sym, ap, ◌∙◌, subst}
 use Rattle.source.specs.declared.heading.Heading.{Heading}
 use Rattle.source.specs.declared.table.Table.{Table}
 use Rattle.source.specs.Reading.{read_source}
 use Rattle.source.specs.Tables.{nodes_in, source_in}
 use Rattle.source.specs.Writing.{IsTextOf}
 use Rattle.source.proofs.Soundness.{sound-at}
-use Rattle.loader.specs.Live.{Ready, Loaded, live_sets, pressure}
+use Rattle.loader.specs.Live.{Ready, Loaded}
 use Rattle.loader.specs.Load.{Granted}
 use Rattle.loader.specs.declared.holder.Tables.{Tables}
 

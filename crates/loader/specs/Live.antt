@@ -1,5 +1,5 @@
 -- Liveness: the temporaries whose value may still be read, for each node.
-use Rattle.std.specs.Prelude.{◌≡◌, ℕ, ◌<◌, Bool, true, false, not, ◌&&◌, ◌||◌, List, length, Some, None, Option, nat_eq, nat_le, slice_index}
+use Rattle.std.specs.Prelude.{◌≡◌, ℕ, ◌<◌, Bool, true, not, ◌&&◌, ◌||◌, List, length, nat_eq, nat_le, slice_index}
 use Rattle.sets.specs.Masks.{bit, count, greatest, First, any, names}
 use Rattle.sets.specs.Least.{Least}
 use Rattle.source.specs.Nodes.{result_of, operands, successors, node_at, AllSound}

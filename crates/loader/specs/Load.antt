@@ -1,5 +1,5 @@
 -- What a load answers.
-use Rattle.std.specs.Prelude.{◌≡◌, ℕ, ◌<◌, Bool, true, ◌&&◌, ◌⊎◌, List, length, Some, None, Ok, Err, vec_items, Option, nat_le}
+use Rattle.std.specs.Prelude.{◌≡◌, ℕ, ◌<◌, Bool, true, ◌&&◌, ◌⊎◌, List, length, Ok, Err, vec_items, Option, nat_le}
 use Rattle.std.specs.Option.{option_map}
 use Rattle.sets.specs.Masks.{First}
 use Rattle.refusal.specs.declared.Refusal.{Refusal}

@@ -1,5 +1,5 @@
 -- What the tables of a run keep in range.
-use Rattle.std.proofs.Common.{◌≡◌, ℕ, ◌+◌, ◌-◌, ◌<◌, ◌≤◌, Bool, true, false, ◌&&◌, ltb, leb, List, [], map, length, get_or, take, drop, sym, refl, ap, ◌∙◌, subst, arith}
+use Rattle.std.proofs.Common.{◌≡◌, ℕ, ◌+◌, ◌-◌, ◌<◌, ◌≤◌, Bool, true, false, ◌&&◌, leb, List, [], map, length, get_or, sym, ap, ◌∙◌, subst, arith}
 use lib.ListN.{get_or-map}
 use Rattle.std.specs.List.{between, AllByRecursion as All}
 use Rattle.std.proofs.lemmas.List.Edits.{length-between, get_or-between}
@@ -8,7 +8,7 @@ use Rattle.std.proofs.lemmas.Bool.Decides.{nat_tests}
 use Rattle.source.specs.Nodes.{sound, successor}
 use Rattle.source.specs.declared.node.Node.{Node}
 use Rattle.source.specs.declared.node.Node.TheVariants.{Const, Mov, Binary, Call, Branch, Return}
-use Rattle.allocation.specs.Allocations.{Line, line_at, origins}
+use Rattle.allocation.specs.Allocations.{line_at, origins}
 use Rattle.allocation.specs.Ranges.{row_at, move_at, main_line_fits, row_fits, move_fits, MovesFit}
 use Rattle.allocation.specs.declared.line.Move.{Move}
 use Rattle.allocation.specs.declared.line.Main.{Main}

@@ -4,7 +4,7 @@ use Rattle.std.proofs.lemmas.Bool.{cases_Bool}
 use Rattle.values.specs.Kinds.{Arithmetic}
 use Rattle.values.specs.Hosts.{Answers}
 use Rattle.machine.specs.declared.outcome.Outcome.{Outcome}
-use Rattle.machine.specs.Machine.{Log, Ending, Progress, goes, ends, after, drive, full, source_step, allocated_step}
+use Rattle.machine.specs.Machine.{Log, Progress, goes, ends, after, drive, full, source_step, allocated_step}
 use Rattle.machine.specs.Laws.{then_on, Composes}
 
 module _ {V S M : Type 0} (full : Log V S → Bool) (step : Log V S → M → Progress V S M) where

@@ -1,5 +1,5 @@
 -- The source machine and the allocated machine: one driver, over any kind of value and any host.
-use Rattle.std.specs.Prelude.{ℕ, zero, suc, ◌+◌, Bool, true, false, cond, ◌&&◌, List, [], ◌∷◌, ◌++◌, map, length, set, Some, None, Option, ◌==◌, slice_index_or, slice_set}
+use Rattle.std.specs.Prelude.{ℕ, zero, suc, ◌+◌, Bool, true, false, cond, ◌&&◌, List, [], ◌∷◌, ◌++◌, map, length, Some, None, Option, ◌==◌, slice_index_or, slice_set}
 use Rattle.source.specs.Nodes.{Action, const, mov, binary, call, branch, return, action, node_at, result_of, operands, successor}
 use Rattle.source.specs.Reading.{Source}
 use Rattle.source.specs.declared.node.Node.{Node}

@@ -1,5 +1,5 @@
 -- What the check says of a text that was read is what the offer answers.
-use Rattle.std.proofs.Common.{◌≡◌, ℕ, List, length, IfOk, Some, None, Ok, Err, Option, Result, sym, refl, ap, ◌∙◌, subst, inl, inr, MatchResult}
+use Rattle.std.proofs.Common.{◌≡◌, ℕ, List, length, IfOk, Some, Ok, Err, Option, Result, ap, ◌∙◌, subst, inr, MatchResult}
 use Rattle.std.specs.Option.{option_map}
 use Rattle.refusal.specs.declared.Refusal.{Refusal}
 use Rattle.source.specs.declared.heading.Heading.{Heading}

@@ -1,26 +1,24 @@
 -- Lines published for consistent places pass the check.
-use Rattle.std.proofs.Common.{◌≡◌, ℕ, zero, suc, ◌+◌, ◌-◌, ◌*◌, ◌<◌, ◌≤◌, Bool, true, false, cond, not, ◌&&◌, ◌||◌, eqb, ltb, ◌⊎◌, List, [], ◌∷◌, ◌++◌, map, length, get_or, Some, None, Option, sym, refl, ap, ◌∙◌, subst, inl, inr, arith}
+use Rattle.std.proofs.Common.{◌≡◌, ℕ, zero, suc, ◌+◌, ◌-◌, ◌<◌, ◌≤◌, Bool, true, false, cond, not, ◌&&◌, ◌||◌, eqb, ltb, ◌⊎◌, List, [], ◌∷◌, ◌++◌, length, Some, None, sym, refl, ap, ◌∙◌, subst, inl, inr, arith}
 use mathlib.Core.Bool.{false≢true}
 use Rattle.std.proofs.lemmas.List.{get_or-map}
-use Rattle.std.proofs.lemmas.Bool.{or_cases, or_left, or_right, and_parts, and_from, not-true, not-false, not_from_true, not_from_false, eqb-true, eqb-false, eq-eqb, ne_eqb, lt-ltb, ltb-true, ltb-false, cases_eq, cases_Bool, and_cases, both_ways}
-use Rattle.sets.specs.Masks.{any, names}
-use Rattle.sets.specs.Least.{Closed, Least}
-use Rattle.source.specs.Nodes.{result_of, operands, edges, successor, successors, action, Sound, node_at, AllSound}
+use Rattle.std.proofs.lemmas.Bool.{or_cases, or_left, or_right, and_parts, and_from, not-true, not_from_false, eqb-true, eqb-false, eq-eqb, ne_eqb, lt-ltb, ltb-true, ltb-false, cases_eq, cases_Bool, and_cases, both_ways}
+use Rattle.sets.specs.Masks.{names}
+use Rattle.sets.specs.Least.{Closed}
+use Rattle.source.specs.Nodes.{result_of, Sound, node_at}
 use Rattle.source.specs.Reading.{Source}
 use Rattle.source.proofs.Soundness.{all_sound}
 use Rattle.source.specs.declared.node.Condition.{Condition}
 use Rattle.source.specs.declared.node.Node.{Node}
 use Rattle.source.specs.declared.node.Node.TheVariants.{Const, Mov, Binary, Call, Branch, Return}
-use Rattle.loader.specs.Live.{out_of, reads, is_result, into, Liveness}
-use Rattle.allocation.specs.Allocations.{Line, Allocation, target, origins}
-use Rattle.allocation.specs.Lines.{line_of, edge_moves}
+use Rattle.loader.specs.Live.{out_of, reads, into}
+use Rattle.allocation.specs.Allocations.{Line, Allocation}
+use Rattle.allocation.specs.Lines.{line_of}
 use Rattle.allocation.specs.declared.line.Move.{Move}
-use Rattle.allocation.specs.declared.line.Main.{Main}
-use Rattle.equations.specs.Equations.{back_move, back_moves, renamed, dropped, used, unset, back_main, after, before, equation_step, Equations}
+use Rattle.equations.specs.Equations.{back_move, back_moves, renamed, dropped, used, after, before, equation_step}
 use Rattle.equations.specs.Questions.{Matches, questions, elsewhere, overwritten, foreign, Clear, Passed}
-use Rattle.equations.specs.Verdict.{Accepted}
 use Rattle.places.specs.declared.place.Place.{Place}
-use Rattle.places.specs.Places.{locations, copied, IsPlace, Consistent, Arrives}
+use Rattle.places.specs.Places.{locations, copied, IsPlace, Consistent}
 use Rattle.places.specs.Publish.{◌⇐◌, register_for, bring, bring_two, send, copy, first_register, second_register, published_line, entry_moves, published_allocation}
 use Rattle.places.specs.Laws.{Loadable, Passes, ConsistentPlacesPass}
 

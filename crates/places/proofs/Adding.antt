@@ -1,7 +1,7 @@
 -- Moves added to tables one after another.
-use Rattle.std.proofs.Common.{◌≡◌, ℕ, ◌+◌, ◌<◌, ◌≤◌, List, [], ◌∷◌, ◌++◌, length, sym, refl, ap, ◌∙◌, append_assoc, arith}
+use Rattle.std.proofs.Common.{ℕ, ◌+◌, ◌≤◌, List, ◌++◌, length, ap, ◌∙◌, append_assoc, arith}
 use Rattle.std.proofs.lemmas.List.{length-append}
-use Rattle.allocation.specs.Allocations.{rows_in, moves_in}
+use Rattle.allocation.specs.Allocations.{moves_in}
 use Rattle.allocation.specs.declared.line.Move.{Move}
 use Rattle.allocation.specs.declared.tables.Tables.{Tables}
 use Rattle.places.specs.Steps.{Added, Open}

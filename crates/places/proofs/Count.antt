@@ -1,15 +1,14 @@
 -- How many moves are published.
-use Rattle.std.proofs.Common.{◌≡◌, ℕ, zero, suc, ◌+◌, ◌-◌, ◌*◌, ◌<◌, ◌≤◌, Bool, true, false, cond, ◌&&◌, ◌||◌, eqb, ltb, List, [], ◌∷◌, ◌++◌, map, length, get_or, sym, refl, ap, subst, arith}
+use Rattle.std.proofs.Common.{ℕ, zero, suc, ◌+◌, ◌-◌, ◌*◌, ◌≤◌, Bool, true, false, cond, ◌&&◌, ◌||◌, eqb, ltb, List, [], ◌∷◌, map, length, sym, subst, arith}
 use Rattle.std.proofs.lemmas.List.{length-append, get_or-map}
 use Rattle.source.specs.Nodes.{node_at}
-use Rattle.source.specs.Reading.{Source}
 use Rattle.source.specs.declared.node.Node.{Node}
 use Rattle.source.specs.declared.node.Node.TheVariants.{Const, Mov, Binary, Call, Branch, Return}
 use Rattle.allocation.specs.Allocations.{Line}
-use Rattle.allocation.specs.Lines.{line_moves, lines_moves, line_of}
+use Rattle.allocation.specs.Lines.{line_moves, lines_moves}
 use Rattle.allocation.specs.declared.line.Move.{Move}
 use Rattle.places.specs.Places.{locations}
-use Rattle.places.specs.Publish.{◌⇐◌, bring, bring_two, send, copy, ins_of, outs_of, published_line, entry_moves, published_allocation}
+use Rattle.places.specs.Publish.{◌⇐◌, bring, bring_two, send, ins_of, published_line, entry_moves, published_allocation}
 use Rattle.places.specs.Laws.{PublishedLinesFew}
 
 pub one_at_most : (b : Bool) (m : Move) → length (cond b [] (m ∷ [])) ≤ 1

@@ -1,17 +1,16 @@
 -- The loops that fill tables.
-use Rattle.std.proofs.Common.{◌≡◌, ℕ, zero, suc, ◌+◌, ◌-◌, ◌*◌, ◌<◌, ◌≤◌, Bool, true, false, cond, ◌&&◌, ltb, List, [], ◌∷◌, ◌++◌, map, length, get_or, take, sym, refl, ap, ◌∙◌, subst, ap₂, append_assoc, append-nil, add-one, arith}
+use Rattle.std.proofs.Common.{◌≡◌, ℕ, zero, suc, ◌+◌, ◌*◌, ◌<◌, ◌≤◌, Bool, true, false, cond, ◌&&◌, ltb, List, [], ◌∷◌, ◌++◌, map, length, take, sym, refl, ap, ◌∙◌, subst, append-nil, add-one, arith}
 use Rattle.std.proofs.lemmas.List.{length-append, length-map, length-take-le, take-append-le, take_all, map_more}
-use Rattle.source.specs.Nodes.{Sound, AllSound, node_at}
+use Rattle.source.specs.Nodes.{Sound, node_at}
 use Rattle.source.specs.declared.node.Node.{Node}
 use Rattle.source.specs.declared.node.Node.TheVariants.{Const, Mov, Binary, Call, Branch, Return}
-use Rattle.source.proofs.Soundness.{all_sound}
-use Rattle.allocation.specs.Allocations.{Line, Allocation, rows_in, moves_in, allocation_of, line_at}
-use Rattle.allocation.specs.Lines.{line_moves, lines_moves, move_count}
+use Rattle.allocation.specs.Allocations.{Line, rows_in, moves_in, allocation_of, line_at}
+use Rattle.allocation.specs.Lines.{line_moves, lines_moves}
 use Rattle.allocation.specs.declared.heading.Heading.{Heading}
 use Rattle.allocation.specs.declared.line.Move.{Move}
 use Rattle.allocation.specs.declared.tables.Tables.{Tables}
 use Rattle.places.specs.Publish.{◌⇐◌, published_line, entry_moves}
-use Rattle.places.specs.Steps.{lines_in, Added, Lined, Filled, Open}
+use Rattle.places.specs.Steps.{Added, Lined, Filled, Open}
 use Rattle.places.proofs.Adding.{added_two, still_open}
 use Rattle.places.proofs.Count.{lines_few, entry_few}
 

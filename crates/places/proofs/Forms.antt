@@ -1,21 +1,17 @@
 -- Published lines are well formed.
-use Rattle.std.proofs.Common.{◌≡◌, ℕ, zero, suc, ◌+◌, ◌-◌, ◌^◌, ◌<◌, ◌≤◌, Bool, true, false, cond, ◌&&◌, ◌||◌, eqb, ltb, ◌⊎◌, List, [], ◌∷◌, ◌++◌, map, length, sym, refl, ap, inl, inr, arith}
-use Rattle.std.specs.List.{AllByRecursion as All}
+use Rattle.std.proofs.Common.{◌≡◌, ℕ, zero, suc, ◌+◌, ◌-◌, ◌^◌, ◌<◌, ◌≤◌, Bool, true, false, cond, ◌&&◌, ◌||◌, eqb, ltb, List, [], ◌∷◌, length, refl, inl, inr, arith}
 use Rattle.std.proofs.ByRecursion.{All-append, All-map, All-from_get_or}
 use Rattle.std.proofs.lemmas.List.{length-map}
 use Rattle.std.proofs.lemmas.Bool.{ltb-true, lt-ltb, or_left, or_right, and_parts, and_from}
 use Rattle.source.specs.Nodes.{Sound}
-use Rattle.source.specs.Reading.{Source}
 use Rattle.source.specs.declared.node.Node.{Node}
 use Rattle.source.specs.declared.node.Node.TheVariants.{Const, Mov, Binary, Call, Branch, Return}
 use Rattle.source.proofs.Soundness.{all_sound}
-use Rattle.allocation.specs.Allocations.{Line}
-use Rattle.allocation.specs.Ranges.{move_fits, main_line_fits}
+use Rattle.allocation.specs.Ranges.{move_fits}
 use Rattle.allocation.specs.WellFormed.{MovesIn, LineIn}
 use Rattle.allocation.specs.declared.line.Move.{Move}
-use Rattle.allocation.specs.declared.line.Main.{Main}
 use Rattle.places.specs.Places.{locations, IsPlace}
-use Rattle.places.specs.Publish.{◌⇐◌, register_for, bring, bring_two, send, copy, first_register, second_register, ins_of, main_of, outs_of, published_line, entry_moves}
+use Rattle.places.specs.Publish.{◌⇐◌, register_for, bring, bring_two, send, copy, first_register, second_register, published_line, entry_moves}
 use Rattle.places.specs.Laws.{PublishedLinesWellFormed}
 use Rattle.places.proofs.Count.{published_lines_few}
 

@@ -1,11 +1,10 @@
 -- All temporaries at home.
-use Rattle.std.specs.Prelude.{◌≡◌, ℕ, ◌+◌, ◌<◌, ◌≤◌, Bool, length, replicate, ◌≢◌, slice_index_or, refl}
-use Rattle.std.proofs.Common.{sym, ap, subst, ◌∙◌, inl, inr, arith}
+use Rattle.std.specs.Prelude.{◌≡◌, ℕ, ◌+◌, ◌≤◌, Bool, replicate, ◌≢◌, slice_index_or}
+use Rattle.std.proofs.Common.{sym, ap, subst, inl, inr, arith}
 use Rattle.std.proofs.lemmas.List.{length-replicate, get_or-replicate, get_or_past}
 use Rattle.std.proofs.lemmas.Bool.{cases_lt}
 use Rattle.source.specs.Reading.{Source}
-use Rattle.places.specs.declared.place.Place.{Place}
-use Rattle.places.specs.declared.place.Place.TheVariants.{Home, Register}
+use Rattle.places.specs.declared.place.Place.TheVariants.{Home}
 use Rattle.places.specs.Places.{location, locations, homes, Owed}
 
 pub getD_homes : (V v : ℕ) → slice_index_or (replicate V Home) v Home ≡ Home

@@ -1,8 +1,8 @@
 -- What is read, written, is the text that it was read from.
 use Rattle.std.proofs.Common.{◌≡◌, ℕ, ◌+◌, ◌<◌, ◌≤◌, Bool, true, false, cond, eqb, ltb, List, [], ◌∷◌, ◌++◌, map, length, Some, None, Ok, Err, Option, Result, sym, refl, ap, ◌∙◌, subst, arith}
-use Rattle.std.proofs.lemmas.List.{append_assoc, append-nil, map_push, length_push, length-append}
+use Rattle.std.proofs.lemmas.List.{append_assoc, append-nil, map_push, length_push}
 use Rattle.std.proofs.ByRecursion.{All-push}
-use Rattle.std.proofs.lemmas.Bool.{cond-true, cond-false, ltb-true, eqb-true}
+use Rattle.std.proofs.lemmas.Bool.{ltb-true, eqb-true}
 use Rattle.std.specs.List.{AllByRecursion as All}
 use Rattle.text.specs.Parts.{lines_of, fields_of, sized, written}
 use Rattle.text.specs.Fields.{shape_of}
@@ -26,12 +26,12 @@ use Rattle.allocation.specs.Items.{item_of}
 use Rattle.reading.specs.Stages.{main_stage}
 use Rattle.allocation.specs.Allocations.{Line, Allocation}
 use Rattle.allocation.specs.Rendering.{move_fields, main_fields, item_fields, move_rows, line_rows, lines_rows, heading_fields, rows_of, render}
-use Rattle.reading.specs.Reading.{State, fresh, begun, closed, pending, opened, turned, with_in, with_out, with_alt, with_move, with_main, and_go, if_stands, next_node, stand, with_room, take_item, take_line, one_line, whole, finish, run, started, headed, read_allocation}
+use Rattle.reading.specs.Reading.{State, fresh, begun, closed, pending, opened, with_in, with_out, with_alt, with_move, with_main, and_go, next_node, stand, with_room, take_item, take_line, one_line, whole, run, started, headed, read_allocation}
 use Rattle.allocation.specs.Lines.{line_moves, lines_moves}
 use Rattle.allocation.specs.WellFormed.{MovesIn, Shaped, LineIn, WellFormed}
 use Rattle.reading.specs.Laws.{WrittenBack, ReadsWell}
 use Rattle.allocation.proofs.ItemLaws.{item_read, Says}
-use Rattle.allocation.proofs.HeadingLaws.{HeadIn, heading_read}
+use Rattle.allocation.proofs.HeadingLaws.{heading_read}
 
 -- what is true of the line that is being read, at each stage
 abbrev Fits : (r s n : ℕ) → Stage → List Line → Line → Type 0

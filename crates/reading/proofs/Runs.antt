@@ -1,19 +1,18 @@
 -- Laws of reading the lines one after another.
-use Rattle.std.proofs.Common.{◌≡◌, ℕ, ◌+◌, ◌-◌, ◌<◌, ◌≤◌, Bool, true, false, cond, eqb, ltb, List, [], ◌∷◌, map, length, drop, Some, None, Ok, Err, Option, Result, sym, refl, ap, ◌∙◌, subst, arith}
+use Rattle.std.proofs.Common.{◌≡◌, ℕ, ◌+◌, ◌<◌, ◌≤◌, true, false, ltb, List, ◌∷◌, map, length, drop, Ok, Err, Option, Result, sym, ap, ◌∙◌}
 use Rattle.std.proofs.lemmas.List.{drop_all}
 use Rattle.std.proofs.lemmas.Bool.{cond-true, cond-false, lt-ltb, le-ltb, eq-eqb, ne_eqb}
 use Rattle.text.specs.Parts.{lines_of, fields_of, sized}
-use Rattle.text.specs.Fields.{shape_of, shapes_of}
+use Rattle.text.specs.Fields.{shapes_of}
 use Rattle.text.proofs.Splits.{lines_none}
 use Rattle.refusal.specs.declared.Refusal.{Refusal}
-use Rattle.refusal.specs.declared.Refusal.TheVariants.{AllocationSize, AllocationHeading, OutOfOrder, MissingNodes}
+use Rattle.refusal.specs.declared.Refusal.TheVariants.{AllocationSize, OutOfOrder, MissingNodes}
 use Rattle.allocation.specs.declared.heading.Heading.{Heading}
 use Rattle.allocation.specs.declared.item.Item.{Item}
 use Rattle.text.specs.declared.fields.Fault.{Fault}
 use Rattle.allocation.specs.Headings.{heading_of}
 use Rattle.allocation.specs.Items.{item_of}
-use Rattle.allocation.specs.Allocations.{Allocation}
-use Rattle.reading.specs.Reading.{State, fresh, opened, and_go, if_stands, next_node, take_line, one_line, whole, finish, run, started, headed, read_allocation}
+use Rattle.reading.specs.Reading.{State, opened, and_go, if_stands, next_node, take_line, one_line, whole, finish, run, started, headed, read_allocation}
 
 -- the next node is begun, or there is none
 pub next_ok : (n k : ℕ) (s t : State) → t ≡ opened s → length t.done < n → next_node n k s ≡ Ok t

@@ -1,5 +1,5 @@
 -- What a reader has read, by its parts.
-use Rattle.std.proofs.Common.{◌≡◌, ℕ, zero, suc, ◌+◌, ◌-◌, ◌<◌, ◌≤◌, Bool, true, ◌&&◌, leb, List, [], ◌∷◌, ◌++◌, map, length, get_or, take, drop, sym, refl, ap, ◌∙◌, subst, arith}
+use Rattle.std.proofs.Common.{◌≡◌, ℕ, suc, ◌-◌, ◌≤◌, true, leb, List, [], ◌∷◌, ◌++◌, map, length, take, drop, refl, ap, ◌∙◌, arith}
 use Rattle.std.specs.List.{between}
 use Rattle.std.proofs.lemmas.List.{take_all, drop_all, take_rest, map_push, length_push, length-drop, length-map, take-append-le, drop-append-le}
 use Rattle.std.proofs.lemmas.Bool.{and_parts, and_from, leb-true, le-leb}
@@ -11,7 +11,7 @@ use Rattle.allocation.specs.declared.line.Row.{Row}
 use Rattle.reading.specs.declared.stage.Stage.{Stage}
 use Rattle.reading.specs.declared.stage.Stage.TheVariants.{Start, Before, Plain, Branch, Alternate, Return}
 use Rattle.reading.specs.declared.reader.Reader.{Reader}
-use Rattle.allocation.specs.Ranges.{main_line_fits, row_fits, row_at, RowsFit}
+use Rattle.allocation.specs.Ranges.{main_line_fits, row_fits, RowsFit}
 use Rattle.reading.specs.Stages.{held, main_stage}
 use Rattle.allocation.specs.Allocations.{Line, line_at, rows_in, moves_in, allocation_of}
 use Rattle.reading.specs.Reading.{State, begun, opened, turned, with_move, with_main, entry_with, line_with, whole}

@@ -1,5 +1,5 @@
 -- Where lines may stand.
-use Rattle.std.specs.Prelude.{ℕ, Bool, true, false, List, [], ◌∷◌, ◌++◌}
+use Rattle.std.specs.Prelude.{ℕ, Bool, true, false}
 use Rattle.allocation.specs.declared.line.Main.{Main}
 use Rattle.allocation.specs.declared.line.Main.TheVariants as main
 use Rattle.reading.specs.declared.stage.Stage.{Stage}

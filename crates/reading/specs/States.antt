@@ -1,5 +1,5 @@
 -- What a reader has read.
-use Rattle.std.specs.Prelude.{ℕ, List, [], ◌∷◌, map, length, take, drop}
+use Rattle.std.specs.Prelude.{ℕ, List, [], map, length, take, drop}
 use Rattle.std.specs.List.{between}
 use Rattle.allocation.specs.declared.line.Move.{Move}
 use Rattle.allocation.specs.declared.line.Main.{Main}

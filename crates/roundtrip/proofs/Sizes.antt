@@ -1,5 +1,5 @@
 -- How long the text of a well-formed allocation can be.
-use Rattle.std.proofs.Common.{◌≡◌, ℕ, ◌+◌, ◌-◌, ◌*◌, ◌^◌, ◌<◌, ◌≤◌, Bool, true, false, cond, ◌&&◌, ltb, List, [], ◌∷◌, ◌++◌, map, length, codes, decimal, sym, refl, ap, ◌∙◌, subst, arith}
+use Rattle.std.proofs.Common.{◌≡◌, ℕ, ◌+◌, ◌-◌, ◌*◌, ◌<◌, ◌≤◌, Bool, true, false, cond, ◌&&◌, ltb, List, [], ◌∷◌, ◌++◌, length, codes, decimal, ◌∙◌, arith}
 use Rattle.std.specs.List.{AllByRecursion as All}
 use Rattle.std.proofs.lemmas.Fmt.{length-decimal-le}
 use Rattle.std.proofs.lemmas.List.{length-append}
@@ -16,9 +16,9 @@ use Rattle.allocation.specs.declared.line.Main.TheVariants.{Skip, Const, Binary,
 use Rattle.allocation.specs.declared.words.Edge.{Edge}
 use Rattle.allocation.specs.declared.words.Edge.TheVariants.{Entry, In, Out, Alt}
 use Rattle.allocation.specs.Allocations.{Line, Allocation}
-use Rattle.allocation.specs.Lines.{line_moves, lines_moves, move_count}
-use Rattle.allocation.specs.Ranges.{move_fits, main_line_fits}
-use Rattle.allocation.specs.Rendering.{register_name, location_name, move_fields, main_fields, move_rows, line_rows, lines_rows, heading_fields, rows_of, render}
+use Rattle.allocation.specs.Lines.{line_moves, lines_moves}
+use Rattle.allocation.specs.Ranges.{main_line_fits}
+use Rattle.allocation.specs.Rendering.{register_name, location_name, main_fields, move_rows, line_rows, lines_rows, render}
 use Rattle.allocation.specs.Words.{edge_name}
 use Rattle.allocation.specs.WellFormed.{MovesIn, LineIn, WellFormed}
 

@@ -1,12 +1,10 @@
 -- What is written of a well-formed allocation is read as that allocation.
-use Rattle.std.proofs.Common.{◌≡◌, ℕ, ◌+◌, ◌<◌, ◌≤◌, Bool, true, false, cond, eqb, ltb, List, [], ◌∷◌, ◌++◌, map, length, Some, Ok, Err, Result, sym, refl, ap, ◌∙◌, subst, arith}
-use Rattle.std.proofs.lemmas.List.{append_assoc, append-nil, length-append, length_push}
+use Rattle.std.proofs.Common.{◌≡◌, ℕ, ◌+◌, ◌<◌, ◌≤◌, true, cond, eqb, List, [], ◌∷◌, ◌++◌, length, Ok, Err, sym, refl, ap, ◌∙◌, subst, arith}
+use Rattle.std.proofs.lemmas.List.{append_assoc, append-nil, length_push}
 use Rattle.std.proofs.lemmas.Bool.{cond-true, lt-ltb, eq-eqb}
 use Rattle.std.specs.List.{AllByRecursion as All}
-use Rattle.text.specs.Parts.{lines_of, fields_of, sized, written}
 use Rattle.text.proofs.TextLaws.{Plain, AllPlain, cut_written, sized-written}
-use Rattle.refusal.specs.declared.Refusal.{Refusal}
-use Rattle.refusal.specs.declared.Refusal.TheVariants.{OutOfOrder, TooManyMoves, MissingNodes}
+use Rattle.refusal.specs.declared.Refusal.TheVariants.{MissingNodes}
 use Rattle.allocation.specs.declared.heading.Heading.{Heading}
 use Rattle.allocation.specs.declared.line.Move.{Move}
 use Rattle.allocation.specs.declared.line.Main.{Main}
@@ -22,9 +20,9 @@ use Rattle.allocation.specs.Items.{item_of}
 use Rattle.reading.specs.Stages.{held, main_stage}
 use Rattle.allocation.specs.Allocations.{Line, Allocation}
 use Rattle.allocation.specs.Rendering.{move_fields, main_fields, item_fields, move_rows, line_rows, lines_rows, heading_fields, rows_of, render}
-use Rattle.reading.specs.Reading.{State, fresh, begun, closed, pending, opened, turned, entry_with, line_with, with_move, with_main, and_go, if_stands, next_node, stand, with_room, take_item, take_line, one_line, whole, finish, run, started, headed, read_allocation}
+use Rattle.reading.specs.Reading.{State, fresh, begun, opened, entry_with, line_with, with_move, with_main, and_go, stand, with_room, take_item, take_line, one_line, whole, run, started, headed, read_allocation}
 use Rattle.allocation.specs.Lines.{line_moves, lines_moves}
-use Rattle.allocation.specs.WellFormed.{MovesIn, Shaped, LineIn, WellFormed}
+use Rattle.allocation.specs.WellFormed.{MovesIn, Shaped, LineIn}
 use Rattle.roundtrip.proofs.Sizes.{text_short}
 use Rattle.roundtrip.specs.Laws.{ReadBack}
 use Rattle.allocation.proofs.ItemLaws.{item_written, item_plain}

@@ -1,9 +1,9 @@
 -- The worked source is loaded.
-use Rattle.std.proofs.Common.{◌≡◌, ℕ, zero, suc, ◌+◌, ◌^◌, ◌<◌, ◌≤◌, Bool, true, false, cond, not, ◌&&◌, ◌||◌, eqb, ltb, ◌⊎◌, List, [], ◌∷◌, map, length, get_or, set, Ok, sym, refl, ap, ◌∙◌, ap₂, inl, inr, arith, lit<}
+use Rattle.std.proofs.Common.{◌≡◌, ℕ, zero, suc, ◌^◌, ◌<◌, ◌≤◌, Bool, true, false, cond, not, ◌&&◌, ◌||◌, ◌⊎◌, List, [], ◌∷◌, length, get_or, set, Ok, sym, refl, ◌∙◌, ap₂, inl, inr, arith, lit<}
 use Rattle.std.proofs.lemmas.Bool.{cases_lt, cases_Bool, and_parts, both_ways}
 use Rattle.text.specs.Parts.{lines_of}
 use Rattle.sets.specs.Masks.{bit, any, count, greatest}
-use Rattle.sets.specs.Least.{Growing, Solution, Least}
+use Rattle.sets.specs.Least.{Growing}
 use Rattle.sets.proofs.Masks.{bit_high, any_below}
 use Rattle.sets.proofs.Least.{updated, finish}
 use Rattle.source.specs.Nodes.{AllSound, sound, node_at, operands, successors}

@@ -1,5 +1,5 @@
 -- The worked runs, by computation.
-use Rattle.std.proofs.Common.{◌≡◌, ℕ, ◌≤◌, List, [], ◌∷◌, length, refl, arith}
+use Rattle.std.proofs.Common.{◌≤◌, List, [], ◌∷◌, length, refl, arith}
 use Rattle.values.specs.declared.word.Word.{Word}
 use Rattle.sheets.specs.Runs.{OnCells, WorkedRuns}
 

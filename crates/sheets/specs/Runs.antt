@@ -1,11 +1,8 @@
 -- Runs of the worked allocations.
 use Rattle.std.specs.Prelude.{◌≡◌, ℕ, ◌≤◌, List, [], ◌∷◌, map, length}
-use Rattle.source.specs.Reading.{Source}
-use Rattle.allocation.specs.Allocations.{Allocation}
 use Rattle.values.specs.Words.{words}
 use Rattle.values.specs.Hosts.{script}
 use Rattle.values.specs.declared.word.Word.{Word}
-use Rattle.machine.specs.declared.outcome.Entry.{Entry}
 use Rattle.machine.specs.declared.outcome.Outcome.{Outcome}
 use Rattle.machine.specs.Machine.{Ending, Cells, source_run, allocated_run}
 use Rattle.sheets.specs.Texts.{source_a}

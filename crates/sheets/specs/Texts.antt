@@ -1,6 +1,5 @@
 -- The worked source: its text, and what it is read as.
 use Rattle.std.specs.Prelude.{ℕ, List, [], ◌∷◌, codes}
-use Rattle.text.specs.Parts.{written}
 use Rattle.source.specs.Reading.{Source}
 use Rattle.source.specs.declared.node.Operation.TheVariants.{Add}
 use Rattle.source.specs.declared.node.Condition.TheVariants.{Lt}

@@ -1,8 +1,8 @@
 -- Accepted tables ask the host only where the source's nodes do.
-use Rattle.std.proofs.Common.{◌≡◌, ℕ, ◌<◌, Bool, true, false, ◌⊎◌, length, Some, None, Option, sym, refl, ap, ◌∙◌, ⊎_elim, arith}
+use Rattle.std.proofs.Common.{◌≡◌, true, false, length, sym, refl, ap, ◌∙◌, ⊎_elim, arith}
 use lib.ListN.{length-map}
 use Rattle.std.proofs.lemmas.Bool.{both_ways}
-use Rattle.source.specs.Nodes.{Action, action, node_at}
+use Rattle.source.specs.Nodes.{action, node_at}
 use Rattle.allocation.specs.Allocations.{Line, line_at, rows_in, moves_in, allocation_of}
 use Rattle.allocation.specs.Lines.{main_action, line_of}
 use Rattle.allocation.specs.Ranges.{row_at}

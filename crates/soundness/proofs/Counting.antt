@@ -1,5 +1,5 @@
 -- How many moves a run makes.
-use Rattle.std.proofs.Common.{◌≡◌, ℕ, zero, suc, ◌+◌, ◌*◌, ◌<◌, ◌≤◌, Bool, true, false, List, [], ◌∷◌, map, length, get_or, sym, refl, ap, ◌∙◌, subst, ⊎_elim, arith}
+use Rattle.std.proofs.Common.{◌≡◌, ℕ, zero, suc, ◌+◌, ◌*◌, ◌<◌, ◌≤◌, Bool, true, false, List, [], ◌∷◌, map, length, sym, refl, ◌∙◌, subst, ⊎_elim, arith}
 use Rattle.std.proofs.lemmas.List.{get_or_past}
 use Rattle.std.proofs.lemmas.Bool.{cases_Bool, cases_lt}
 use Rattle.source.specs.Nodes.{node_at}
@@ -13,7 +13,7 @@ use Rattle.values.specs.Kinds.{Arithmetic}
 use Rattle.values.specs.Hosts.{Answers}
 use Rattle.machine.specs.declared.outcome.Entry.{Entry}
 use Rattle.machine.specs.declared.outcome.Taken.{Taken}
-use Rattle.machine.specs.Machine.{Log, Ending, Progress, after, drive, carried, Cells, Effect, effect, read, store, write_all, move_one, move_all, full, start, carry_line, allocated_step, allocated_from, allocated_run, entered}
+use Rattle.machine.specs.Machine.{Log, Ending, after, carried, Cells, Effect, effect, read, store, write_all, move_one, move_all, full, start, allocated_step, allocated_from, entered}
 use Rattle.machine.proofs.Rules.{drive_full, drive_step}
 use Rattle.soundness.specs.Law.{FewMade, FewMovesANode}
 

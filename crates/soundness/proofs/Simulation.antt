@@ -1,5 +1,5 @@
 -- The two machines, node by node.
-use Rattle.std.proofs.Common.{◌≡◌, ℕ, zero, suc, ◌+◌, ◌<◌, ◌≤◌, Bool, true, false, ◌&&◌, ◌||◌, ◌⊎◌, List, [], ◌∷◌, map, length, get_or, set, is_some, Some, None, Option, sym, refl, ap, ◌∙◌, subst, ap₂, subst₂, ⊎_elim, arith, length-set, get_or-set_other, get_or-set_same}
+use Rattle.std.proofs.Common.{◌≡◌, ℕ, zero, suc, ◌+◌, ◌<◌, ◌≤◌, Bool, true, false, ◌||◌, ◌⊎◌, List, [], ◌∷◌, map, length, get_or, set, is_some, Some, None, Option, sym, refl, ap, ◌∙◌, subst, ap₂, subst₂, ⊎_elim, arith, length-set, get_or-set_other, get_or-set_same}
 use Rattle.std.proofs.lemmas.Bool.{cases_Bool, both_ways}
 use Rattle.std.proofs.lemmas.Bool.Decides.{nat_tests}
 use Rattle.std.specs.List.{AllByRecursion as All}
@@ -22,7 +22,7 @@ use Rattle.values.specs.Hosts.{Answers}
 use Rattle.machine.specs.declared.outcome.Outcome.{Outcome}
 use Rattle.machine.specs.declared.outcome.Entry.{Entry}
 use Rattle.machine.specs.declared.outcome.Taken.{Taken}
-use Rattle.machine.specs.Machine.{Log, Ending, Progress, goes, ends, after as then-drive, drive, Effect, effect, passed, carried, Cells, assign, store, read, write_all, move_all, full, source_step, source_from, source_run, start, given, allocated_step, allocated_from, allocated_run, entered}
+use Rattle.machine.specs.Machine.{Log, Ending, after as then-drive, Effect, effect, passed, carried, Cells, assign, store, read, write_all, move_all, full, source_step, source_from, start, given, allocated_step, allocated_from, entered}
 use Rattle.machine.specs.Steps.{main_effect}
 use Rattle.machine.proofs.Ranges.{sound_next}
 use Rattle.machine.proofs.Rules.{drive_full, drive_step}

@@ -1,14 +1,12 @@
 -- What a run relies on, of accepted tables.
-use Rattle.std.proofs.Common.{◌≡◌, ℕ, ◌<◌, ◌≤◌, Bool, List, map, length, take, sym, ap, ◌∙◌, ap₂, arith}
+use Rattle.std.proofs.Common.{◌≡◌, ℕ, Bool, map, length, take, sym, ap, ◌∙◌, arith}
 use lib.ListN.{length-map}
-use Rattle.source.specs.Nodes.{AllSound}
 use Rattle.source.specs.Reading.{Source}
-use Rattle.allocation.specs.Allocations.{Allocation, line_at, rows_in, moves_in, allocation_of}
-use Rattle.allocation.specs.Ranges.{RowsFit, MovesFit}
+use Rattle.allocation.specs.Allocations.{line_at, rows_in, moves_in, allocation_of}
 use Rattle.allocation.specs.declared.tables.Tables.{Tables}
 use Rattle.equations.specs.Verdict.{Fits, Accepted}
 use Rattle.machine.specs.declared.code.Code.{Code}
-use Rattle.machine.specs.Run.{AsksAsNodes, code_allocation, Runnable}
+use Rattle.machine.specs.Run.{code_allocation, Runnable}
 use Rattle.soundness.proofs.Asking.{accepted_asks_lem}
 
 -- the code of a source and of tables that were accepted for it

@@ -1,15 +1,15 @@
 -- Reading and writing a whole source undo each other.
-use Rattle.std.proofs.Common.{◌≡◌, ℕ, suc, ◌+◌, ◌*◌, ◌^◌, ◌<◌, ◌≤◌, min, Bool, true, false, cond, ◌&&◌, eqb, List, [], ◌∷◌, ◌++◌, map, length, Some, None, Ok, Err, codes, decimal, Option, Result, sym, refl, ap, ◌∙◌, subst, arith}
+use Rattle.std.proofs.Common.{◌≡◌, ℕ, suc, ◌+◌, ◌*◌, ◌^◌, ◌<◌, ◌≤◌, min, Bool, true, false, cond, eqb, List, [], ◌∷◌, map, length, Some, None, Ok, Err, codes, decimal, Option, Result, sym, refl, ap, ◌∙◌, subst, arith}
 use Rattle.std.proofs.lemmas.List.{length-map, length-append}
 use Rattle.std.proofs.lemmas.Bool.{cond-true, cond-false, eq-eqb, ne_eqb, eqb-true}
 use Rattle.std.proofs.lemmas.Fmt.{length-decimal-le}
 use Rattle.std.specs.List.{AllByRecursion as All}
 use Rattle.std.specs.Option.{option_map}
 use Rattle.text.specs.Parts.{lines_of, fields_of, sized, ended, written}
-use Rattle.text.specs.Fields.{Shape, shape_of, shapes_of, number_between, word_in, and_then}
+use Rattle.text.specs.Fields.{shape_of, shapes_of, number_between, word_in, and_then}
 use Rattle.text.specs.declared.fields.Fault.{Fault}
 use Rattle.text.proofs.TextLaws.{Lacks, AllLack, Plain, AllPlain, cut_written, written_cut, sized-written}
-use Rattle.text.proofs.FieldLaws.{Inverse, between_inverse, mapped_some, decimal_lacks}
+use Rattle.text.proofs.FieldLaws.{between_inverse, mapped_some, decimal_lacks}
 use Rattle.text.proofs.Saying.{and_then-some}
 use Rattle.refusal.specs.declared.Refusal.{Refusal}
 use Rattle.refusal.specs.declared.Refusal.TheVariants.{SourceSize, SourceLength}
@@ -20,9 +20,9 @@ use Rattle.source.specs.declared.words.Opcode.{Opcode}
 use Rattle.source.specs.declared.words.Opcode.TheVariants as opcode
 use Rattle.source.specs.declared.words.Title.TheVariants as title
 use Rattle.source.specs.Nodes.{Sound}
-use Rattle.source.specs.Words.{opcode_name, condition_name, title_name, titles}
+use Rattle.source.specs.Words.{opcode_name, title_name, titles}
 use Rattle.source.specs.Reading.{Source, heading_from, heading_of, node_of, refused, then_read, with_first, read_nodes, sourced, counted, headed, read_source}
-use Rattle.source.specs.Writing.{heading_fields, node_fields, source_text, WellFormed, IsTextOf, ReadIsWritten, WrittenIsRead}
+use Rattle.source.specs.Writing.{heading_fields, node_fields, source_text, IsTextOf, ReadIsWritten, WrittenIsRead}
 use Rattle.source.proofs.Wording.{opcode_inverse, opcode_short, condition_inverse, condition_short, title_inverse}
 use Rattle.source.proofs.NodeLaws.{Few, Says, node_written, node_read}
 

@@ -1,5 +1,5 @@
 -- Laws of reading the lines one after another.
-use Rattle.std.proofs.Common.{◌≡◌, ℕ, ◌+◌, ◌<◌, ◌≤◌, min, Bool, true, false, cond, eqb, List, [], ◌∷◌, ◌++◌, length, drop, Some, None, Ok, Err, Option, Result, sym, refl, ap, ◌∙◌, subst, arith}
+use Rattle.std.proofs.Common.{◌≡◌, ℕ, ◌+◌, ◌≤◌, min, true, false, List, [], ◌∷◌, ◌++◌, length, drop, Some, None, Ok, Err, Option, Result, sym, refl, ap, ◌∙◌}
 use Rattle.std.proofs.lemmas.List.{append_assoc, append-nil, drop_all}
 use Rattle.std.proofs.lemmas.Bool.{cond-true, cond-false, eq-eqb, ne_eqb}
 use Rattle.text.specs.Parts.{lines_of, sized}
@@ -10,7 +10,7 @@ use Rattle.refusal.specs.declared.Refusal.{Refusal}
 use Rattle.refusal.specs.declared.Refusal.TheVariants.{SourceSize, SourceHeading, SourceLength}
 use Rattle.source.specs.declared.heading.Heading.{Heading}
 use Rattle.source.specs.declared.node.Node.{Node}
-use Rattle.source.specs.Reading.{Source, heading_of, node_of, refused, with_first, then_read, read_nodes, sourced, counted, headed, read_source}
+use Rattle.source.specs.Reading.{heading_of, node_of, refused, with_first, then_read, read_nodes, sourced, counted, headed, read_source}
 
 -- nodes in front of those that are read
 abbrev pub after : List Node → Result (List Node) Refusal → Result (List Node) Refusal

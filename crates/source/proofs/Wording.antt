@@ -1,5 +1,5 @@
 -- The words of a source text, read and written.
-use Rattle.std.proofs.Common.{◌≡◌, ℕ, ◌<◌, ◌≤◌, List, length, Some, refl, arith}
+use Rattle.std.proofs.Common.{◌≡◌, ℕ, ◌<◌, ◌≤◌, length, Some, refl, arith}
 use Rattle.text.specs.Words.{named}
 use Rattle.text.specs.Fields.{word, shape_of, word_in}
 use Rattle.text.proofs.TextLaws.{Lacks}

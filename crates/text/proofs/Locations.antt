@@ -1,11 +1,10 @@
 -- Laws of locations.
-use Rattle.std.proofs.Common.{◌≡◌, ℕ, ◌+◌, ◌-◌, ◌<◌, ◌≤◌, cond, eqb, List, [], ◌∷◌, length, get_or, take, drop, Some, None, Option, sym, refl, ap, ◌∙◌, subst, arith}
+use Rattle.std.proofs.Common.{◌≡◌, ℕ, ◌-◌, ◌<◌, List, [], ◌∷◌, length, get_or, take, drop, sym, ap, ◌∙◌, arith}
 use Rattle.std.proofs.lemmas.List.{take_all}
 use Rattle.std.proofs.lemmas.Bool.{cond-true, cond-false, eq-eqb, ne_eqb}
 use Rattle.std.specs.Option.{option_map}
 use Rattle.text.specs.Number.{number_of}
 use Rattle.text.specs.Fields.{location_of}
-use Rattle.text.specs.declared.fields.Location.{Location}
 use Rattle.text.specs.declared.fields.Location.TheVariants.{Register, Slot}
 
 -- what follows the first byte, as the slice pattern reads it

@@ -7,7 +7,7 @@ use Rattle.allocation.specs.Lines.{line_of}
 use Rattle.sets.specs.Least.{Least}
 use Rattle.refusal.specs.declared.Refusal.{Refusal}
 use Rattle.refusal.specs.declared.Refusal.TheVariants.{Mismatch}
-use Rattle.source.specs.Nodes.{node_at, sound, Sound, AllSound}
+use Rattle.source.specs.Nodes.{node_at, Sound, AllSound}
 use Rattle.source.specs.Reading.{Source}
 use Rattle.source.specs.Tables.{nodes_in, source_in}
 use Rattle.source.specs.declared.heading.Heading.{Heading}
@@ -15,7 +15,7 @@ use Rattle.source.specs.declared.table.Table.{Table}
 use Rattle.source.specs.declared.node.Node.{Node}
 use Rattle.source.specs.declared.node.Node.TheVariants as node
 use Rattle.source.proofs.Soundness.{sound_is, is_sound}
-use Rattle.allocation.specs.Allocations.{Line, Allocation, target, origins, line_at, rows_in, moves_in, allocation_of}
+use Rattle.allocation.specs.Allocations.{Line, Allocation, line_at, rows_in, moves_in, allocation_of}
 use Rattle.allocation.specs.Ranges.{main_line_fits, row_fits, move_fits, row_at, move_at}
 use Rattle.allocation.specs.declared.tables.Tables.{Tables}
 use Rattle.allocation.specs.declared.line.Move.{Move}

@@ -1,12 +1,11 @@
 -- How the lines of an allocation are put together.
-use Rattle.std.proofs.Common.{◌≡◌, ℕ, ◌+◌, ◌-◌, ◌<◌, ◌≤◌, List, [], ◌∷◌, ◌++◌, map, length, get_or, take, set, Option, sym, refl, ap, ◌∙◌, subst, arith}
+use Rattle.std.proofs.Common.{◌≡◌, ℕ, ◌+◌, ◌-◌, ◌≤◌, List, [], ◌∷◌, ◌++◌, map, length, take, set, sym, refl, ap, ◌∙◌, subst, arith}
 use Rattle.std.proofs.lemmas.List.{append_assoc, length-append, length-map}
 use Rattle.text.specs.Parts.{ended, written}
-use Rattle.text.specs.Put.{piece_bytes, left_of, added}
+use Rattle.text.specs.Put.{piece_bytes}
 use Rattle.text.specs.declared.put.Piece.{Piece}
 use Rattle.text.proofs.Writing.{Joins}
 use Rattle.allocation.specs.declared.line.Move.{Move}
-use Rattle.allocation.specs.declared.line.Main.{Main}
 use Rattle.allocation.specs.declared.line.Main.TheVariants.{Skip}
 use Rattle.allocation.specs.declared.line.Row.{Row}
 use Rattle.allocation.specs.declared.words.Edge.{Edge}

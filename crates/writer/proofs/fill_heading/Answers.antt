@@ -1,4 +1,3 @@
-use Rattle.std.proofs.Common.{◌≡◌, ℕ, ◌+◌, ◌-◌, ◌<◌, ◌≤◌, List, [], ◌∷◌, ◌++◌, map, length, get_or, take, sym, refl, ap, ◌∙◌, subst, arith, rules}
 use Rattle.writer.proofs.Parts.{filled_heading}
 use Rattle.writer.proofs.fill_heading.Goals as goal
 

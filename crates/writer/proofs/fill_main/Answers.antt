@@ -1,6 +1,6 @@
-use Rattle.std.proofs.Common.{◌≡◌, ℕ, ◌+◌, ◌-◌, ◌<◌, ◌≤◌, List, [], ◌∷◌, ◌++◌, map, length, get_or, take, codes, decimal, sym, refl, ap, ◌∙◌, subst, arith, rules}
+use Rattle.std.proofs.Common.{[], ◌∷◌, codes, decimal, sym, ap, ◌∙◌, arith}
 use Rattle.text.proofs.Writing.{no_piece}
-use Rattle.allocation.specs.Rendering.{main_fields, item_fields}
+use Rattle.allocation.specs.Rendering.{main_fields}
 use Rattle.writer.proofs.Parts.{filled_1, filled_2, filled_3, filled_4, filled_5}
 use Rattle.writer.proofs.fill_main.Goals as goal
 

@@ -1,7 +1,7 @@
-use Rattle.std.proofs.Common.{◌≡◌, ℕ, ◌+◌, ◌-◌, ◌<◌, ◌≤◌, List, [], ◌∷◌, ◌++◌, map, length, get_or, take, codes, decimal, sym, refl, ap, ◌∙◌, subst, arith, rules}
+use Rattle.std.proofs.Common.{[], ◌∷◌, sym, ap, ◌∙◌, arith}
 use Rattle.text.proofs.Writing.{no_piece}
-use Rattle.allocation.specs.Rendering.{main_fields, item_fields}
-use Rattle.writer.proofs.Parts.{filled_1, filled_2, filled_3, filled_4, filled_5}
+use Rattle.allocation.specs.Rendering.{item_fields}
+use Rattle.writer.proofs.Parts.{filled_3}
 use Rattle.writer.proofs.fill_row.Goals as goal
 
 pub returns-in-Move : goal.returns-in-Move

@@ -1,4 +1,4 @@
-use Rattle.std.proofs.Common.{◌≡◌, ℕ, ◌+◌, ◌-◌, ◌<◌, ◌≤◌, List, [], ◌∷◌, ◌++◌, map, length, get_or, take, sym, refl, ap, ◌∙◌, subst, arith, rules}
+use Rattle.std.proofs.Common.{length, ap, ◌∙◌}
 use Rattle.text.specs.Put.{left_of}
 use Rattle.writer.proofs.Parts.{row_taken}
 use Rattle.writer.proofs.item_fits.Goals as goal

@@ -1,12 +1,10 @@
-use Rattle.std.proofs.Common.{◌≡◌, ℕ, ◌+◌, ◌-◌, ◌<◌, ◌≤◌, List, [], ◌∷◌, ◌++◌, map, length, get_or, take, sym, refl, ap, ◌∙◌, subst, arith, rules}
+use Rattle.std.proofs.Common.{ℕ, List, length, ap, arith}
 use Rattle.std.proofs.lemmas.List.{take_all}
 use Rattle.text.specs.Parts.{written}
 use Rattle.text.proofs.Writing.{joins_room, joins_length, fits_none, fits_not, fits_left, fits_some}
 use Rattle.allocation.specs.declared.line.Move.{Move}
-use Rattle.allocation.specs.declared.line.Row.{Row}
-use Rattle.allocation.specs.Allocations.{line_at}
-use Rattle.allocation.specs.Rendering.{move_rows, lines_rows}
-use Rattle.writer.proofs.Parts.{moves_join, no_move, no_row}
+use Rattle.allocation.specs.Rendering.{move_rows}
+use Rattle.writer.proofs.Parts.{moves_join, no_move}
 use Rattle.writer.proofs.moves_fit.Goals as goal
 
 pub loop-m-init : goal.loop-m-init

@@ -1,7 +1,6 @@
-use Rattle.std.proofs.Common.{◌≡◌, ℕ, ◌+◌, ◌-◌, ◌<◌, ◌≤◌, List, [], ◌∷◌, ◌++◌, map, length, get_or, take, Some, None, sym, refl, ap, ◌∙◌, subst, arith}
-use Rattle.std.proofs.lemmas.List.{length-append}
-use Rattle.text.specs.Parts.{ended, written}
-use Rattle.text.specs.Put.{added, left_of}
+use Rattle.std.proofs.Common.{length, ap, ◌∙◌, arith}
+use Rattle.text.specs.Parts.{ended}
+use Rattle.text.specs.Put.{added}
 use Rattle.text.proofs.Writing.{lent_is}
 use Rattle.writer.proofs.put_heading.Goals as goal
 

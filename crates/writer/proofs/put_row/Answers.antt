@@ -1,7 +1,6 @@
-use Rattle.std.proofs.Common.{◌≡◌, ℕ, ◌+◌, ◌-◌, ◌<◌, ◌≤◌, List, [], ◌∷◌, ◌++◌, map, length, get_or, take, Some, None, sym, refl, ap, ◌∙◌, subst, arith}
+use Rattle.std.proofs.Common.{◌++◌, sym, ap, ◌∙◌, arith}
 use Rattle.std.proofs.lemmas.List.{length-append}
-use Rattle.text.specs.Parts.{ended, written}
-use Rattle.text.specs.Put.{added, left_of}
+use Rattle.text.specs.Put.{added}
 use Rattle.text.proofs.Writing.{added_then}
 use Rattle.allocation.specs.Allocations.{line_at}
 use Rattle.writer.proofs.Parts.{ins, main, outs, alts, line_is, line_long}

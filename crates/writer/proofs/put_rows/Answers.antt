@@ -1,13 +1,12 @@
-use Rattle.std.proofs.Common.{◌≡◌, ℕ, ◌+◌, ◌-◌, ◌<◌, ◌≤◌, List, [], ◌∷◌, ◌++◌, map, length, get_or, take, sym, refl, ap, ◌∙◌, subst, arith, rules}
+use Rattle.std.proofs.Common.{ℕ, ◌+◌, List, map, length, get_or, sym, ap, ◌∙◌, arith}
 use Rattle.std.proofs.lemmas.List.{take_all}
-use Rattle.text.specs.Parts.{ended, written}
+use Rattle.text.specs.Parts.{written}
 use Rattle.text.specs.Put.{added}
 use Rattle.text.proofs.Writing.{joins_room, joins_length, joins_added, added_none}
-use Rattle.allocation.specs.declared.line.Move.{Move}
 use Rattle.allocation.specs.declared.line.Row.{Row}
 use Rattle.allocation.specs.Allocations.{line_at}
-use Rattle.allocation.specs.Rendering.{move_fields, move_rows, line_rows, lines_rows}
-use Rattle.writer.proofs.Parts.{rows_join, no_move, no_row}
+use Rattle.allocation.specs.Rendering.{line_rows, lines_rows}
+use Rattle.writer.proofs.Parts.{rows_join, no_row}
 use Rattle.writer.proofs.put_rows.Goals as goal
 
 pub loop-row-init : goal.loop-row-init

@@ -1,6 +1,6 @@
-use Rattle.std.proofs.Common.{◌≡◌, ℕ, ◌+◌, ◌≤◌, List, ◌++◌, length, Some, None, sym, refl, ap, ◌∙◌, subst, arith}
+use Rattle.std.proofs.Common.{◌≡◌, ◌+◌, ◌≤◌, ◌++◌, length, sym, ap, ◌∙◌, arith}
 use Rattle.std.proofs.lemmas.List.{length-append}
-use Rattle.text.specs.Put.{added, left_of}
+use Rattle.text.specs.Put.{added}
 use Rattle.text.proofs.Writing.{added_then}
 use Rattle.writer.proofs.Parts.{head, entry, lines, text_is, text_long}
 use Rattle.writer.proofs.put_text.Goals as goal

@@ -1,7 +1,5 @@
-use Rattle.std.proofs.Common.{◌≡◌, ℕ, ◌+◌, ◌-◌, ◌<◌, ◌≤◌, List, [], ◌∷◌, ◌++◌, map, length, get_or, take, Some, None, sym, refl, ap, ◌∙◌, subst, arith}
-use Rattle.std.proofs.lemmas.List.{length-append}
-use Rattle.text.specs.Parts.{ended, written}
-use Rattle.text.specs.Put.{added, left_of}
+use Rattle.std.proofs.Common.{◌+◌, Some, None, sym, ap, ◌∙◌}
+use Rattle.text.specs.Put.{left_of}
 use Rattle.text.proofs.Writing.{fits_neither, fits_then}
 use Rattle.allocation.specs.Allocations.{line_at}
 use Rattle.writer.proofs.Parts.{line_parts}

@@ -1,8 +1,7 @@
 use Rattle.std.proofs.Common.{◌≡◌, ◌+◌, map, length, take}
 use Rattle.text.specs.Parts.{written}
-use Rattle.text.specs.Put.{added}
 use Rattle.allocation.specs.Allocations.{line_at}
-use Rattle.allocation.specs.Rendering.{move_rows, lines_rows}
+use Rattle.allocation.specs.Rendering.{lines_rows}
 use Rattle.writer.proofs.rows_fit.Given as goal
 
 abbrev pub invariant-loop-row : goal.invariant-loop-row

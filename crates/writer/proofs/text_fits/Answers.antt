@@ -1,6 +1,5 @@
-use Rattle.std.proofs.Common.{◌≡◌, ℕ, ◌+◌, ◌≤◌, List, ◌++◌, length, Some, None, sym, refl, ap, ◌∙◌, subst, arith}
-use Rattle.std.proofs.lemmas.List.{length-append}
-use Rattle.text.specs.Put.{added, left_of}
+use Rattle.std.proofs.Common.{◌+◌, length, Some, None, sym, ap, ◌∙◌}
+use Rattle.text.specs.Put.{left_of}
 use Rattle.text.proofs.Writing.{fits_neither, fits_then}
 use Rattle.writer.proofs.Parts.{head, entry, lines, text_long}
 use Rattle.writer.proofs.text_fits.Goals as goal

@@ -1,6 +1,4 @@
-use Rattle.std.proofs.Common.{◌≡◌, ℕ, ◌+◌, ◌≤◌, List, ◌++◌, length, Some, None, sym, refl, ap, ◌∙◌, subst, arith}
-use Rattle.std.proofs.lemmas.List.{length-append}
-use Rattle.text.specs.Put.{added, left_of}
+use Rattle.std.proofs.Common.{subst}
 use Rattle.text.specs.Put.{WrittenAt}
 use Rattle.refusal.specs.declared.Refusal.TheVariants.{NoRoom}
 use Rattle.writer.proofs.Parts.{text_render, rows_fit}

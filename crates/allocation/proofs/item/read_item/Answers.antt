@@ -1,4 +1,4 @@
-use Rattle.std.proofs.Common.{◌≡◌, sym, ◌∙◌, arith}
+use Rattle.std.proofs.Common.{◌∙◌, arith}
 use Rattle.allocation.proofs.OneLine.{item_many, item_row}
 use Rattle.allocation.proofs.ItemLaws.{item_read_fits}
 use Rattle.allocation.proofs.item.read_item.Goals as goal

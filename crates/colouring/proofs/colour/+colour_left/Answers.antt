@@ -1,4 +1,4 @@
-use Rattle.std.proofs.Common.{◌≡◌, ℕ, ◌<◌, not, length, set, replicate, ap, ◌∙◌, arith}
+use Rattle.std.proofs.Common.{◌≡◌, ℕ, not, length, set, replicate, ap, ◌∙◌, arith}
 use Rattle.places.specs.declared.place.Place.TheVariants.{Home}
 use Rattle.sets.specs.Masks.{bit}
 use Rattle.colouring.specs.Colouring.{to_place, lowest_of, held, rows}

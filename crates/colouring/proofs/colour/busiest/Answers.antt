@@ -1,4 +1,4 @@
-use Rattle.std.proofs.Common.{◌≡◌, ℕ, length, sym, ap, ◌∙◌, add-one, arith}
+use Rattle.std.proofs.Common.{ℕ, length, sym, ap, ◌∙◌, add-one, arith}
 use Rattle.sets.specs.Masks.{bit}
 use Rattle.colouring.specs.Colouring.{busiest_of, better, degree, rows}
 use Rattle.colouring.specs.Searches.{busiest_below}

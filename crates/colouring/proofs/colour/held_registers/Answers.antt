@@ -1,4 +1,4 @@
-use Rattle.std.proofs.Common.{◌≡◌, ℕ, ◌<◌, Bool, ◌&&◌, ◌||◌, length, get_or, sym, ap, ◌∙◌, ap₂, arith}
+use Rattle.std.proofs.Common.{ℕ, Bool, ◌&&◌, length, get_or, ap, ◌∙◌, arith}
 use Rattle.sets.specs.Masks.{bit}
 use Rattle.places.specs.declared.place.Place.TheVariants.{Home}
 use Rattle.colouring.specs.Colouring.{held, holds}

@@ -1,4 +1,4 @@
-use Rattle.std.proofs.Common.{◌≡◌, length, Some, None, sym, ◌∙◌, arith}
+use Rattle.std.proofs.Common.{length, Some, None, sym, arith}
 use Rattle.sets.specs.Masks.{bit}
 use Rattle.colouring.specs.Colouring.{under, rows}
 use Rattle.colouring.specs.Searches.{lowest_found}

@@ -1,4 +1,4 @@
-use Rattle.std.proofs.Common.{◌≡◌, ℕ, length, Some, None, Option, ap, ◌∙◌}
+use Rattle.std.proofs.Common.{◌≡◌, ℕ, length, Some, Option, ap, ◌∙◌}
 use Rattle.sets.specs.Masks.{bit}
 use Rattle.colouring.specs.Colouring.{next, or_else, busiest_of, degree, rows}
 use Rattle.colouring.specs.Searches.{next_below}

@@ -1,6 +1,5 @@
-use Rattle.std.proofs.Common.{◌≡◌, ℕ, List, length, sym, refl, ap, ◌∙◌, subst, arith}
-use Rattle.source.specs.Nodes.{node_at, Sound}
-use Rattle.source.proofs.Soundness.{all_sound}
+use Rattle.std.proofs.Common.{ℕ, List, refl, ap, ◌∙◌}
+use Rattle.source.specs.Nodes.{node_at}
 use Rattle.loader.specs.Live.{live_sets}
 use Rattle.colouring.specs.Colouring.{demands, rows}
 use Rattle.colouring.proofs.Rows.{some_more, rows-zero}

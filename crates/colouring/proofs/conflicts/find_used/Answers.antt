@@ -1,4 +1,4 @@
-use Rattle.std.proofs.Common.{◌≡◌, ℕ, Bool, ◌||◌, Option, ap, ◌∙◌, ap₂, arith}
+use Rattle.std.proofs.Common.{ℕ, Bool, ◌||◌, Option, ap, ◌∙◌, arith}
 use Rattle.sets.specs.Masks.{bit, names}
 use Rattle.source.specs.Nodes.{node_at, result_of}
 use Rattle.source.proofs.Soundness.{all_sound}

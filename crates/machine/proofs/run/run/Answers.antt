@@ -1,4 +1,4 @@
-use Rattle.std.proofs.Common.{◌≤◌, length, take, sym, ap, ◌∙◌, arith}
+use Rattle.std.proofs.Common.{length, take, sym, ap, ◌∙◌, arith}
 use native.Mathlib.Nat.{sub-zero}
 use Rattle.machine.specs.Run.{code_source, code_allocation, refusal_of}
 use Rattle.machine.proofs.Ranges.{reads_part, part_length}

@@ -1,4 +1,4 @@
-use Rattle.std.proofs.Common.{length, sym, refl, ap, ◌∙◌}
+use Rattle.std.proofs.Common.{length, ap}
 use Rattle.allocation.specs.Lines.{main_action}
 use Rattle.allocation.specs.declared.line.Main.{Main}
 use Rattle.machine.specs.Machine.{asks}

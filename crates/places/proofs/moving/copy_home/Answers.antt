@@ -1,7 +1,7 @@
 use Rattle.std.proofs.Common.{◌-◌, [], ◌∷◌, arith}
 use Rattle.places.specs.Publish.{◌⇐◌}
 use Rattle.places.proofs.Adding.{added_two, still_open}
-use Rattle.places.proofs.Forms.{to_register, from_register}
+use Rattle.places.proofs.Forms.{from_register}
 use Rattle.places.proofs.moving.copy_home.Goals as goal
 
 pub push-requires-2 : goal.push-requires-2

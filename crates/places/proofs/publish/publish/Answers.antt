@@ -1,10 +1,8 @@
-use Rattle.std.proofs.Common.{◌≡◌, ℕ, ◌+◌, ◌*◌, ◌≤◌, Bool, List, map, length, ap, arith}
+use Rattle.std.proofs.Common.{◌+◌, ◌*◌, map, length, ap, arith}
 use Rattle.loader.specs.Live.{live_sets}
 use Rattle.allocation.specs.declared.heading.Heading.{Heading}
-use Rattle.allocation.specs.declared.line.Move.{Move}
 use Rattle.places.specs.Places.{locations}
 use Rattle.places.specs.Publish.{entry_moves, published_line}
-use Rattle.places.specs.Steps.{Placed}
 use Rattle.places.proofs.Count.{entry_few}
 use Rattle.places.proofs.Forms.{place_inside}
 use Rattle.places.proofs.Filling.{rows_empty, whole_open, whole, whole-count}

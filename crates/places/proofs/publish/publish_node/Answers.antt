@@ -1,9 +1,9 @@
-use Rattle.std.proofs.Common.{◌≡◌, ℕ, ◌+◌, ◌<◌, ◌≤◌, true, length, sym, refl, ap, ◌∙◌, subst, arith}
+use Rattle.std.proofs.Common.{◌≡◌, ◌+◌, true, length, refl, ap, ◌∙◌, arith}
 use Rattle.std.proofs.lemmas.List.{length-append}
 use Rattle.allocation.specs.Allocations.{rows_in, moves_in}
 use Rattle.allocation.specs.Ranges.{main_line_fits}
 use Rattle.places.specs.Places.{locations}
-use Rattle.places.specs.Publish.{ins_of, outs_of, main_of, published_line}
+use Rattle.places.specs.Publish.{ins_of, outs_of, published_line}
 use Rattle.places.proofs.Adding.{still_open}
 use Rattle.places.proofs.Count.{ins_few}
 use Rattle.places.proofs.Forms.{line_fits_lem}

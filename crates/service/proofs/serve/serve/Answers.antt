@@ -1,4 +1,4 @@
-use Rattle.std.proofs.Common.{◌≡◌, ◌<◌, ◌≤◌, List, ◌++◌, length, get_or, take, drop, sym, refl, ◌∙◌, subst, subst₂, arith, rules}
+use Rattle.std.proofs.Common.{◌≡◌, ◌<◌, ◌≤◌, ◌++◌, length, get_or, take, drop, sym, refl, subst, subst₂, arith, rules}
 use Rattle.std.proofs.lemmas.List.{take_at, take_all, get_or_default}
 use Rattle.engine.specs.Held.{held}
 use Rattle.engine.specs.Plain.{new}

@@ -1,4 +1,4 @@
-use Rattle.std.proofs.Common.{◌≡◌, sym, ap, ◌∙◌}
+use Rattle.std.proofs.Common.{sym, ◌∙◌}
 use Rattle.source.proofs.OneLine.{first_none, first_unknown, first_count, first_operands}
 use Rattle.source.proofs.lines.read_by_first.Goals as goal
 

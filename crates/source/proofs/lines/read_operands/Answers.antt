@@ -1,4 +1,4 @@
-use Rattle.std.proofs.Common.{◌≡◌, map, sym, ap, ◌∙◌}
+use Rattle.std.proofs.Common.{map, sym, ap, ◌∙◌}
 use Rattle.text.specs.Fields.{shape}
 use Rattle.text.proofs.Saying.{said}
 use Rattle.source.specs.Reading.{const_of, mov_of, binary_of, call_of, branch_of, return_of, operands_of}

@@ -1,4 +1,4 @@
-use Rattle.std.proofs.Common.{◌≡◌, ◌+◌, length, drop, Ok, Err, sym, ap, ◌∙◌, arith, rules}
+use Rattle.std.proofs.Common.{◌+◌, length, drop, Err, sym, ap, ◌∙◌, arith, rules}
 use Rattle.text.specs.Parts.{lines_of}
 use Rattle.source.specs.Reading.{read_nodes}
 use Rattle.source.proofs.WholeText.{after, after_none, read_on, read_stops, read_ends}

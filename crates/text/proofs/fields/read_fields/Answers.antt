@@ -1,7 +1,7 @@
-use Rattle.std.proofs.Common.{length, ap, arith}
+use Rattle.std.proofs.Common.{arith}
 use Rattle.std.proofs.lemmas.List.{take_rest, length-drop}
 use Rattle.text.proofs.Splits.{some-parts}
-use Rattle.text.proofs.Rows.{Filled, filled_none, fill_more, fill_last}
+use Rattle.text.proofs.Rows.{filled_none, fill_more, fill_last}
 use Rattle.text.proofs.fields.read_fields.Goals as goal
 
 pub loop-rest-init : goal.loop-rest-init

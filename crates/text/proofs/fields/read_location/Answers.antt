@@ -1,4 +1,4 @@
-use Rattle.std.proofs.Common.{sym, ap, ◌∙◌, arith, ltb-false}
+use Rattle.std.proofs.Common.{ap, ◌∙◌, arith, ltb-false}
 use Rattle.std.specs.Option.{option_map}
 use Rattle.text.specs.declared.fields.Location.TheVariants.{Register, Slot}
 use Rattle.text.proofs.Locations.{location_r, location_s}

@@ -1,6 +1,5 @@
-use Rattle.std.proofs.Common.{◌-◌, length, get_or, sym, ap, ◌∙◌, arith, rules}
+use Rattle.std.proofs.Common.{◌-◌, get_or, sym, ◌∙◌, arith, rules}
 use Rattle.std.proofs.lemmas.List.{at_drop_all}
-use Rattle.std.proofs.lemmas.Bool.Decides.{nat_tests}
 use Rattle.text.specs.Number.{read_on}
 use Rattle.text.proofs.Numbers.{read_more, read_stop, number_bad, number_is, ten_more}
 use Rattle.text.proofs.number.read_number.Goals as goal

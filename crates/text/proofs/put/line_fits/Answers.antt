@@ -1,4 +1,4 @@
-use Rattle.std.proofs.Common.{◌≡◌, map, length, ap, arith}
+use Rattle.std.proofs.Common.{map, length, ap, arith}
 use Rattle.std.proofs.lemmas.List.{at_drop_all}
 use Rattle.text.specs.Parts.{ended}
 use Rattle.text.specs.Put.{piece_bytes}

@@ -1,9 +1,9 @@
-use Rattle.std.proofs.Common.{◌≡◌, ℕ, ◌+◌, ◌-◌, ◌<◌, ◌≤◌, ◌⊎◌, List, [], ◌∷◌, ◌++◌, map, length, get_or, drop, set, sym, refl, ap, ◌∙◌, subst, inl, inr, arith}
+use Rattle.std.proofs.Common.{◌≡◌, ◌+◌, ◌-◌, ◌<◌, ◌≤◌, ◌⊎◌, [], ◌∷◌, ◌++◌, map, length, get_or, drop, sym, subst, inl, inr, arith}
 use borrow.Rule.Slice.PartMut.{put_mid}
 use Rattle.std.proofs.lemmas.List.{take_rest, length-drop, at_drop_all}
 use Rattle.text.specs.Parts.{ended}
 use Rattle.text.specs.Put.{piece_bytes}
-use Rattle.text.proofs.Writing.{Wrote, wrote_none, wrote_byte, wrote_part, wrote_all, ended-room, ended_step, no_piece}
+use Rattle.text.proofs.Writing.{Wrote, wrote_byte, wrote_part, wrote_all, ended-room, ended_step, no_piece}
 use Rattle.text.proofs.put.put_line.Goals as goal
 use Rattle.text.proofs.put.put_line.Goals.{then-i-row, else-i-row}
 

@@ -1,7 +1,6 @@
-use Rattle.std.proofs.Common.{sym, ap, ◌∙◌, rules}
+use Rattle.std.proofs.Common.{sym, ap, ◌∙◌}
 use Rattle.std.specs.Option.{option_map}
 use Rattle.source.specs.Tables.{nodes_in, source_in}
-use Rattle.allocation.specs.Allocations.{allocation_of}
 use Rattle.engine.specs.Held.{held}
 use Rattle.engine.proofs.Settling.{none_offered, stands, offer_stands}
 use Rattle.engine.proofs.state.Engine.offer.Goals as goal

@@ -1,4 +1,4 @@
-use Rattle.std.proofs.Common.{List, Option, sym, refl, subst, subst₂}
+use Rattle.std.proofs.Common.{Option, sym, refl, subst, subst₂}
 use Rattle.std.specs.Option.{option_map}
 use Rattle.source.specs.Reading.{Source}
 use Rattle.source.specs.Tables.{source_in}

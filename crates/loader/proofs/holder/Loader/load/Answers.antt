@@ -1,9 +1,8 @@
-use Rattle.std.proofs.Common.{◌≡◌, ◌<◌, ◌≤◌, length, Some, vec_items, sym, refl, ap, ◌∙◌, subst, arith}
+use Rattle.std.proofs.Common.{◌≡◌, ◌<◌, ◌≤◌, length, Some, vec_items, refl, ap, ◌∙◌, subst, arith}
 use Rattle.source.specs.declared.heading.Heading.{Heading}
 use Rattle.source.specs.Tables.{nodes_in, source_in}
 use Rattle.source.proofs.Soundness.{sound-at}
 use Rattle.loader.specs.Live.{Loaded}
-use Rattle.loader.specs.Load.{Granted}
 use Rattle.loader.specs.declared.holder.Tables.{Tables}
 use Rattle.loader.proofs.Loading.{loaded, counted, granted}
 use Rattle.loader.proofs.holder.Loader.load.Goals as goal

@@ -1,4 +1,4 @@
-use Rattle.std.proofs.Common.{◌≡◌, ℕ, ◌<◌, List, length, vec_items, vec_len, sym, refl, ap, ◌∙◌, subst, subst₂, arith, rules}
+use Rattle.std.proofs.Common.{◌≡◌, ℕ, ◌<◌, List, length, vec_len, sym, refl, ap, ◌∙◌, subst, subst₂, rules}
 use Rattle.std.proofs.lemmas.List.{with_items_is}
 use Rattle.source.specs.Nodes.{AllSound}
 use Rattle.source.specs.declared.node.Node.{Node}

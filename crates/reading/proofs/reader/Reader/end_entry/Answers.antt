@@ -1,6 +1,6 @@
-use Rattle.std.proofs.Common.{◌≡◌, ℕ, ◌+◌, ◌-◌, ◌<◌, ◌≤◌, List, [], ◌∷◌, ◌++◌, length, sym, refl, ap, ◌∙◌, subst, arith, rules}
+use Rattle.std.proofs.Common.{length, sym, ap, ◌∙◌}
 use Rattle.allocation.specs.Allocations.{rows_in, moves_in}
-use Rattle.reading.proofs.Views.{Parts, view, parts_of, state_is, at_stage, staged, opened_start}
+use Rattle.reading.proofs.Views.{view, state_is, staged, opened_start}
 use Rattle.reading.specs.Reading.{opened}
 use Rattle.reading.specs.declared.stage.Stage.TheVariants.{Start}
 use Rattle.reading.proofs.reader.Reader.end_entry.Goals as goal

@@ -1,6 +1,6 @@
-use Rattle.std.proofs.Common.{◌≡◌, ℕ, ◌+◌, ◌-◌, ◌<◌, ◌≤◌, List, [], ◌∷◌, ◌++◌, length, sym, refl, ap, ◌∙◌, subst, arith, rules}
+use Rattle.std.proofs.Common.{◌≡◌, ◌+◌, length, sym, ap, ◌∙◌, arith}
 use Rattle.allocation.specs.Allocations.{rows_in, moves_in}
-use Rattle.reading.proofs.Views.{Parts, view, parts_of, state_is, at_stage, staged, opened-held, line_is}
+use Rattle.reading.proofs.Views.{view, state_is, opened-held, line_is}
 use Rattle.std.proofs.lemmas.List.{length_push}
 use Rattle.allocation.specs.Ranges.{main_line_fits}
 use Rattle.reading.specs.Reading.{opened}

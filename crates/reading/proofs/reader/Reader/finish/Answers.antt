@@ -1,4 +1,4 @@
-use Rattle.std.proofs.Common.{◌≡◌, map, Ok, Err, sym, refl, ap, ◌∙◌, subst, arith, rules}
+use Rattle.std.proofs.Common.{Ok, ap, ◌∙◌, arith}
 use Rattle.reading.specs.States.{state}
 use Rattle.reading.proofs.Views.{done_long, whole_is}
 use Rattle.reading.proofs.Runs.{finish_ok, finish-not}

@@ -1,4 +1,4 @@
-use Rattle.std.proofs.Common.{◌≡◌, sym, refl, ap, ◌∙◌, subst, arith}
+use Rattle.std.proofs.Common.{ap, arith}
 use Rattle.reading.proofs.Views.{done_long}
 use Rattle.reading.proofs.Runs.{next_ok, next_not}
 use Rattle.reading.specs.States.{state}

@@ -1,5 +1,5 @@
-use Rattle.std.proofs.Common.{◌≡◌, ℕ, ◌+◌, ◌-◌, ◌<◌, ◌≤◌, List, [], ◌∷◌, ◌++◌, length, sym, refl, ap, ◌∙◌, subst, arith, rules}
-use Rattle.reading.proofs.Views.{Parts, view, parts_of, state_is, at_stage, staged}
+use Rattle.std.proofs.Common.{sym, ap, ◌∙◌}
+use Rattle.reading.proofs.Views.{staged}
 use Rattle.reading.specs.Reading.{opened}
 use Rattle.reading.specs.declared.stage.Stage.TheVariants.{Before}
 use Rattle.reading.proofs.reader.Reader.open_node.Goals as goal

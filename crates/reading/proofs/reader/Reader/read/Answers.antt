@@ -1,6 +1,6 @@
-use Rattle.std.proofs.Common.{◌≡◌, true, map, drop, Some, None, sym, refl, ap, ◌∙◌, subst, arith}
+use Rattle.std.proofs.Common.{◌≡◌, true, map, drop, Some, None, sym, ap, ◌∙◌}
 use Rattle.text.specs.Parts.{lines_of, fields_of, sized}
-use Rattle.reading.specs.Reading.{run, fresh}
+use Rattle.reading.specs.Reading.{run}
 use Rattle.reading.proofs.Runs.{not-sized, is_headed}
 use Rattle.reading.proofs.ReadLaws.{writes_back, reads_well}
 use Rattle.reading.proofs.reader.Reader.read.Goals as goal

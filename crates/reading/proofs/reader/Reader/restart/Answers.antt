@@ -1,6 +1,5 @@
-use Rattle.std.proofs.Common.{◌≡◌, ℕ, ◌+◌, ◌-◌, ◌<◌, ◌≤◌, List, [], ◌∷◌, ◌++◌, length, sym, refl, ap, ◌∙◌, subst, arith, rules}
-use Rattle.allocation.specs.Allocations.{rows_in, moves_in}
-use Rattle.reading.proofs.Views.{Parts, view, parts_of, state_is, at_stage, staged}
+use Rattle.std.proofs.Common.{◌∙◌}
+use Rattle.reading.proofs.Views.{view, state_is}
 use Rattle.reading.specs.declared.stage.Stage.TheVariants.{Start}
 use Rattle.allocation.specs.declared.line.Main.TheVariants.{Skip}
 use Rattle.reading.proofs.reader.Reader.restart.Goals as goal

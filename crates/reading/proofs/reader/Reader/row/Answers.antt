@@ -1,6 +1,6 @@
-use Rattle.std.proofs.Common.{◌≡◌, ℕ, ◌+◌, ◌-◌, ◌<◌, ◌≤◌, List, [], ◌∷◌, ◌++◌, length, sym, refl, ap, ◌∙◌, subst, arith, rules}
-use Rattle.allocation.specs.Allocations.{rows_in, moves_in, line_at}
-use Rattle.reading.proofs.Views.{Parts, view, parts_of, state_is, at_stage, staged, row_line, row_line_alternate, row_fits_from}
+use Rattle.std.proofs.Common.{sym, ap, ◌∙◌, arith}
+use Rattle.allocation.specs.Allocations.{moves_in, line_at}
+use Rattle.reading.proofs.Views.{row_line, row_line_alternate, row_fits_from}
 use Rattle.reading.specs.States.{line_in, line_so_far}
 use Rattle.reading.proofs.reader.Reader.row.Goals as goal
 

@@ -1,6 +1,6 @@
-use Rattle.std.proofs.Common.{◌≡◌, ℕ, ◌+◌, ◌-◌, ◌<◌, ◌≤◌, List, [], ◌∷◌, ◌++◌, length, sym, refl, ap, ◌∙◌, subst, arith, rules}
+use Rattle.std.proofs.Common.{sym, ap, ◌∙◌}
 use Rattle.allocation.specs.Allocations.{rows_in, moves_in}
-use Rattle.reading.proofs.Views.{Parts, view, parts_of, state_is, at_stage, staged, with_main_is}
+use Rattle.reading.proofs.Views.{view, state_is, staged, with_main_is}
 use Rattle.reading.specs.Reading.{with_main}
 use Rattle.reading.specs.declared.stage.Stage.TheVariants.{Before}
 use Rattle.reading.proofs.reader.Reader.set_main.Goals as goal

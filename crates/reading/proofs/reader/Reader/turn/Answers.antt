@@ -1,6 +1,6 @@
-use Rattle.std.proofs.Common.{◌≡◌, ℕ, ◌+◌, ◌-◌, ◌<◌, ◌≤◌, List, [], ◌∷◌, ◌++◌, length, sym, refl, ap, ◌∙◌, subst, arith, rules}
+use Rattle.std.proofs.Common.{sym, refl, ap, ◌∙◌}
 use Rattle.allocation.specs.Allocations.{rows_in, moves_in}
-use Rattle.reading.proofs.Views.{Parts, view, parts_of, state_is, at_stage, staged, turned_branch}
+use Rattle.reading.proofs.Views.{view, state_is, staged, turned_branch}
 use Rattle.reading.specs.Reading.{turned}
 use Rattle.reading.specs.declared.stage.Stage.TheVariants.{Branch, Alternate}
 use Rattle.reading.proofs.reader.Reader.turn.Goals as goal

@@ -1,5 +1,4 @@
-use Rattle.std.proofs.Common.{◌≡◌, ◌+◌, ◌≤◌, min, length, drop, Ok, Err, sym, ap, ◌∙◌, subst, arith, rules}
-use Rattle.std.proofs.lemmas.Bool.Decides.{nat_tests}
+use Rattle.std.proofs.Common.{◌+◌, ◌≤◌, min, length, drop, Err, sym, ap, ◌∙◌, arith, rules}
 use Rattle.refusal.specs.declared.Refusal.TheVariants.{SourceLength}
 use Rattle.text.specs.Parts.{lines_of}
 use Rattle.source.specs.Reading.{sourced}
