@@ -6,7 +6,7 @@ use base.Stored.{Coded, Coded-set, coded_unit, coded_ℕ, coded×, coded⊎, cod
 use Rattle.std.proofs.lemmas.List.{length-map}
 use Rattle.std.proofs.lemmas.Bool.{lt-ltb, ltb-true, le-leb, leb-true, eq-eqb, eqb-true}
 use Rattle.refusal.specs.declared.Refusal.{Refusal}
-use Rattle.refusal.specs.declared.Refusal.TheVariants.{Arguments, Cells as Few-cells}
+use Rattle.refusal.specs.declared.Refusal.TheVariants.{Arguments, Cells as FewCells}
 use Rattle.source.specs.declared.heading.Heading.{Heading}
 use Rattle.source.specs.declared.node.Node.{Node}
 use Rattle.source.specs.declared.table.Table.{Table}
@@ -97,7 +97,7 @@ codedEntry c = coded_via (coded× (coded× coded_ℕ c) (coded× c c)) (λ e. ((
 right_many : (s : Source) (a : Allocation) (args cells : ℕ) → refusal_of s a args cells ≡ None → (args ≡ s.parameters) × (a.registers + a.slots ≤ cells)
 right_many s a args cells e = go (eqb args s.parameters) refl (leb (a.registers + a.slots) cells) refl e
   where
-    go : (b : Bool) → eqb args s.parameters ≡ b → (c : Bool) → leb (a.registers + a.slots) cells ≡ c → cond b (cond c None (Some Few-cells)) (Some Arguments) ≡ None → (args ≡ s.parameters) × (a.registers + a.slots ≤ cells)
+    go : (b : Bool) → eqb args s.parameters ≡ b → (c : Bool) → leb (a.registers + a.slots) cells ≡ c → cond b (cond c None (Some FewCells)) (Some Arguments) ≡ None → (args ≡ s.parameters) × (a.registers + a.slots ≤ cells)
     go true p true q k = (eqb-true _ _ p, leb-true _ _ q)
     go true p false q k = absurd (some_none k)
       where

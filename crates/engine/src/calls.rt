@@ -63,7 +63,7 @@ impl Engine {
                     source: heading,
                     placed: false,
                 });
-                Ok(count)
+                Ok(u32::from(count))
             }
             Err(refusal) => Err(refusal),
         }

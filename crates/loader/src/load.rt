@@ -1,6 +1,6 @@
 // The load call.
 ghost use Rattle.std.specs.Prelude.{◌≡◌, ℕ, ◌<◌, ◌≤◌, List, length, IfOk, Some, None, MatchResult};
-ghost use Rattle.refusal.specs.declared.Refusal.TheVariants.{Unset as Unset-temporary};
+ghost use Rattle.refusal.specs.declared.Refusal.TheVariants.{Unset as UnsetTemporary};
 ghost use Rattle.source.specs.Nodes.{AllSound};
 ghost use Rattle.source.specs.Reading.{Source};
 ghost use Rattle.source.specs.Tables.{nodes_in};
@@ -28,7 +28,7 @@ impl Tables {
         requires few { h.temporaries ≤ 48 }
         requires some { 0 < length (nodes_in self.old.nodes) }
         requires room { length (nodes_in self.old.nodes) ≤ 256 }
-        ensures live { MatchResult result (Ready (nodes_in self.old.nodes) h.parameters h.temporaries self.new.live.items) (λ e. ((t : ℕ) × (e ≡ Unset-temporary t) × Unset (nodes_in self.old.nodes) h.parameters self.new.live.items t)) }
+        ensures live { MatchResult result (Ready (nodes_in self.old.nodes) h.parameters h.temporaries self.new.live.items) (λ e. ((t : ℕ) × (e ≡ UnsetTemporary t) × Unset (nodes_in self.old.nodes) h.parameters self.new.live.items t)) }
         ensures same { self.new.nodes ≡ self.old.nodes }
         ensures words { length self.new.live.items ≡ length (nodes_in self.old.nodes) }
     {

@@ -2,7 +2,7 @@
 use Rattle.std.proofs.Common.{◌≡◌, ℕ, suc, ◌+◌, ◌-◌, ◌*◌, ◌<◌, ◌≤◌, Bool, true, false, cond, ◌&&◌, eqb, leb, List, ◌++◌, length, take, drop, Some, None, sym, refl, ap, ◌∙◌, ap₂, arith}
 use Rattle.std.proofs.lemmas.List.{drop-drop, length-take-le, take-append-drop}
 use Rattle.std.proofs.lemmas.Bool.{eqb-true, eqb-false, leb-true, leb-false, both_ways}
-use Rattle.refusal.specs.declared.Refusal.TheVariants.{Arguments, Cells as Few-cells}
+use Rattle.refusal.specs.declared.Refusal.TheVariants.{Arguments, Cells as FewCells}
 use Rattle.source.specs.Nodes.{action, node_at}
 use Rattle.source.specs.Reading.{Source}
 use Rattle.allocation.specs.Allocations.{Allocation}
@@ -96,7 +96,7 @@ module _ {V S : Type 0} (K : Arithmetic V) (E : Answers S V) (code : Code) (budg
 pub granted : (s : Source) (a : Allocation) (args cells : ℕ) → None ≡ refusal_of s a args cells → (args ≡ s.parameters) × (a.registers + a.slots ≤ cells)
 granted s a args cells e = go (eqb args s.parameters) (leb (a.registers + a.slots) cells) refl refl e
   where
-    go : (b c : Bool) → eqb args s.parameters ≡ b → leb (a.registers + a.slots) cells ≡ c → None ≡ cond b (cond c None (Some Few-cells)) (Some Arguments) → (args ≡ s.parameters) × (a.registers + a.slots ≤ cells)
+    go : (b c : Bool) → eqb args s.parameters ≡ b → leb (a.registers + a.slots) cells ≡ c → None ≡ cond b (cond c None (Some FewCells)) (Some Arguments) → (args ≡ s.parameters) × (a.registers + a.slots ≤ cells)
     go true true p q w = (eqb-true args s.parameters p, leb-true (a.registers + a.slots) cells q)
     go true false p q w = let z : ◌≡◌ {A = ℕ} 0 1 = cc in absurd (omega arith)
     go false c p q w = let z : ◌≡◌ {A = ℕ} 0 1 = cc in absurd (omega arith)

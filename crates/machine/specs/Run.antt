@@ -1,7 +1,7 @@
 -- What a run relies on, and what it answers.
 use Rattle.std.specs.Prelude.{◌≡◌, ℕ, ◌+◌, ◌<◌, ◌≤◌, true, cond, List, ◌++◌, map, length, take, drop, Some, None, Ok, Err, Option, Result, ◌==◌, nat_le}
 use Rattle.refusal.specs.declared.Refusal.{Refusal}
-use Rattle.refusal.specs.declared.Refusal.TheVariants.{Arguments, Cells as Few-cells}
+use Rattle.refusal.specs.declared.Refusal.TheVariants.{Arguments, Cells as FewCells}
 use Rattle.source.specs.Nodes.{action, node_at, AllSound}
 use Rattle.source.specs.Reading.{Source}
 use Rattle.source.specs.declared.node.Node.{Node}
@@ -45,7 +45,7 @@ laid ts l = ts ++ drop (length ts) l
 
 -- the first question of a run that says no
 abbrev pub refusal_of : Source → Allocation → ℕ → ℕ → Option Refusal
-refusal_of s a args cells = cond (args == s.parameters) (cond (nat_le (a.registers + a.slots) cells) None (Some Few-cells)) (Some Arguments)
+refusal_of s a args cells = cond (args == s.parameters) (cond (nat_le (a.registers + a.slots) cells) None (Some FewCells)) (Some Arguments)
 
 -- a run that ended as e: its report, the host's state, the cells, and the list l, whose front is now the transcript
 pub record Finished {V S : Type 0} (e : Ending V S (Cells V)) (l : List (Entry V)) (r : Report V) (h' : S) (cs' : List V) (l' : List (Entry V)) : Type 0 where

@@ -21,6 +21,11 @@ pub record Verdict (s : Source) (t : Tables) (words words' : List ℕ) (r : Resu
   pub memory : Left s (allocation_of t) words words'
   pub fits : Fits s (allocation_of t)
 
+-- the same count, by another name
+pub recounted : (r : Result ℕ Refusal) (a b : ℕ) → IfOk r (λ n. n ≡ a) → a ≡ b → IfOk r (λ n. n ≡ b)
+recounted (Ok n) a b e q = e ∙ q
+recounted (Err f) a b e q = tt
+
 answered : (s : Source) (t : Tables) (bs words words' : List ℕ) (r : Result ℕ Refusal) → Reads s bs (allocation_of t) → Verdict s t words words' r → Offered (Some s) bs words (allocation_of t) words' r
 answered s t bs words words' (Ok n) read v = record { read = read; fits = v.fits; accepted = v.verdict; left = v.memory; moves = v.count }
 answered s t bs words words' (Err e) read v = inr (record { read = read; fits = v.fits; refused = v.verdict; left = v.memory })

@@ -1,8 +1,9 @@
 #![tactic(auto)]
 
 // Offering an allocation text for the loaded source: it is read, and checked.
+ghost use Rattle.std.specs.Prelude.{◌≡◌, length, IfOk};
 ghost use Rattle.loader.specs.Load.{loaded_source};
-ghost use Rattle.allocation.specs.Allocations.{allocation_of};
+ghost use Rattle.allocation.specs.Allocations.{allocation_of, moves_in};
 ghost use Rattle.offer.specs.Offers.{Offered};
 
 use loader::holder::Loader;
@@ -16,8 +17,9 @@ pub fn offer(
     spare: &mut Reader,
     text: &[u8],
     memory: &mut [u64],
-) -> Result<u32, Refusal>
-    ensures { Offered (loaded_source loader.now) text.now memory.old (allocation_of spare.new.tables) memory.new result }
+) -> Result<u16, Refusal>
+    ensures answer { Offered (loaded_source loader.now) text.now memory.old (allocation_of spare.new.tables) memory.new result }
+    ensures table { IfOk result (λ count. count ≡ length (moves_in spare.new.tables)) }
 {
     let Some(heading) = loader.heading() else {
         return Err(Refusal::NoSource);

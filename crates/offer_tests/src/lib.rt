@@ -21,7 +21,7 @@ mod tests {
         reader: &mut Reader,
         text: &[u8],
         memory: &mut [u64],
-    ) -> (u32, Numbers) {
+    ) -> (u16, Numbers) {
         match offer(loader, reader, text, memory) {
             Ok(moves) => (moves, refused(0, 0, 0, 0)),
             Err(refusal) => (0, refusal.numbers()),

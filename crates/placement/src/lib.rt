@@ -12,7 +12,7 @@ use places::place::Place;
 use places::placer::Placer;
 use places::publish::publish;
 use refusal::Refusal;
-use verdict::check::check;
+use verdict::check::check_counted;
 
 // The number of registers, where it is 3 to 16.
 fn find_enough(registers: u64) -> Option<u8>
@@ -48,7 +48,7 @@ pub fn place<P: Placer>(
     let places = &mut row[0..heading.temporaries as usize];
     placer.place(heading, nodes, live, registers, places);
     publish(heading, nodes, live, registers, places, spare);
-    check(memory, heading, loader.table(), spare)
+    check_counted(memory, heading, loader.table(), spare)
 }
 
 // A placement is accepted exactly when all of its questions are yes: the theorem that this function's contract names.

@@ -26,8 +26,13 @@ use Rattle.allocation.specs.Items.{item_of}
 use Rattle.reading.specs.Stages.{main_stage}
 use Rattle.allocation.specs.Allocations.{Line, Allocation}
 use Rattle.allocation.specs.Rendering.{move_fields, main_fields, item_fields, move_rows, line_rows, lines_rows, heading_fields, rows_of, render}
+<<<<<<< ours
 use Rattle.reading.specs.Reading.{State, fresh, begun, closed, pending, opened, with_in, with_out, with_alt, with_move, with_main, and_go, next_node, stand, with_room, take_item, take_line, one_line, whole, run, started, headed, read_allocation}
 use Rattle.allocation.specs.Lines.{line_moves, lines_moves}
+=======
+use Rattle.reading.specs.Reading.{State, fresh, begun, closed, pending, opened, turned, with_in, with_out, with_alt, with_move, with_main, and_go, if_stands, next_node, stand, with_room, take_item, take_line, one_line, whole, finish, run, started, headed, read_allocation}
+use Rattle.allocation.specs.Lines.{line_moves, lines_moves, move_count}
+>>>>>>> theirs
 use Rattle.allocation.specs.WellFormed.{MovesIn, Shaped, LineIn, WellFormed}
 use Rattle.reading.specs.Laws.{WrittenBack, ReadsWell}
 use Rattle.allocation.proofs.ItemLaws.{item_read, Says}
@@ -63,7 +68,7 @@ open_moves Return l = line_moves l
 abbrev rows_so_far : State → List (List (List ℕ))
 rows_so_far st = move_rows st.heading.registers Entry st.entry ++ (lines_rows st.heading.registers st.done ++ open_rows st.heading.registers st.stage st.line)
 
-record Sound (n : ℕ) (st : State) : Type 0 where
+pub record Sound (n : ℕ) (st : State) : Type 0 where
   pub few : st.heading.registers + st.heading.slots ≤ 64
   pub entry_in : MovesIn st.heading.registers st.heading.slots st.entry
   pub done_in : All (LineIn st.heading.registers st.heading.slots) st.done
@@ -400,6 +405,38 @@ ran n (fs ∷ rows) st k a s e = read (ran n rows) (item_of st.heading fs) refl 
     read ih (Err f) q e = grind arith
     read ih (Ok i) q e = more ih i (item_read st.heading s.few i fs q) (take_item n k st i) refl e
 
+-- the moves that are counted on the way are those of the allocation
+
+pub fresh_sound : (n : ℕ) (h : Heading) → h.registers + h.slots ≤ 64 → Sound n (fresh h)
+fresh_sound n h few = record { few = few; entry_in = tt; done_in = tt; count = omega arith; few_moves = omega arith; fits = refl }
+
+pub line_sound : (n k : ℕ) (st t : State) (fs : List (List ℕ)) → Sound n st → one_line n k st fs ≡ Ok t → Sound n t
+unfolding one_line
+line_sound n k st t fs s e = go (item_of st.heading fs) refl e
+  where
+    go : (x : Result Item Fault) → item_of st.heading fs ≡ x → take_line n k st x ≡ Ok t → Sound n t
+    go (Err f) q e = grind arith
+    go (Ok i) q e = (took n k st t s i (item_read st.heading s.few i fs q).1 e).sound
+
+module _ (n : ℕ) (h : Heading) (entry : List Move) (done : List Line) (l : Line) (moves : ℕ) where
+  -- all nodes are done
+  all_counted : (g : Stage) → Sound n (there n h entry done l moves g) → length (closed g done l) ≡ n → moves ≡ length entry + lines_moves (closed g done l)
+  all_counted Start s e = omega (arith, s.count)
+  all_counted Before s e = absurd (omega (arith, s.fits.1))
+  all_counted Plain s e = omega (arith, s.count, lines_moves-push done l)
+  all_counted Branch s e = omega (arith, s.count, lines_moves-push done l)
+  all_counted Alternate s e = omega (arith, s.count, lines_moves-push done l)
+  all_counted Return s e = omega (arith, s.count, lines_moves-push done l)
+
+pub finish_counted : (n k : ℕ) (st : State) (a : Allocation) → Sound n st → finish n k st ≡ Ok a → st.moves ≡ move_count a
+finish_counted n k st a s e = go (eqb (length (closed st.stage st.done st.line)) n) refl e
+  where
+    go : (b : Bool) → eqb (length (closed st.stage st.done st.line)) n ≡ b → cond b (Ok (whole (opened st))) (Err (MissingNodes k)) ≡ Ok a → st.moves ≡ move_count a
+    go true b q =
+        let is : whole (opened st) ≡ a = cc in
+        all_counted n st.heading st.entry st.done st.line st.moves st.stage s (eqb-true _ n b) ∙ ap move_count is
+    go false b q = grind arith
+
 -- a whole text
 
 record Found (p n : ℕ) (rows : List (List (List ℕ))) (a : Allocation) : Type 0 where
@@ -415,8 +452,7 @@ found p n (fs ∷ rows) a e = go (heading_of p n (map shape_of fs)) refl e
     go (Some h) q e =
         let head = heading_read p n h fs q in
         let k = head.1 in
-        let first : Sound n (fresh h) = record { few = omega (arith, k.registers_high, k.slots_high); entry_in = tt; done_in = tt; count = omega arith; few_moves = omega arith; fits = refl } in
-        let r = ran n rows (fresh h) 2 a first e in
+        let r = ran n rows (fresh h) 2 a (fresh_sound n h (omega (arith, k.registers_high, k.slots_high))) e in
         record {
           text = λ i. (head.0 ∙ (λ j. heading_fields (sym r.registers j) (sym r.slots j) (sym r.nodes j))) i ∷ sym r.text i;
           formed = record {

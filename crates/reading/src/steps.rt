@@ -1,11 +1,13 @@
 // How an allocation text is read: the stage reached and the word of a line decide together whether the line may stand.
 ghost use Rattle.std.specs.Prelude.{◌≡◌, ◌+◌, ◌^◌, ◌<◌, ◌≤◌, true, map, length, drop, IfOk, Ok, Err, MatchResult, OnOk};
 ghost use Rattle.text.specs.Parts.{lines_of, fields_of};
+ghost use Rattle.allocation.specs.declared.heading.Heading.{Heading};
 ghost use Rattle.reading.specs.declared.stage.Stage.TheVariants.{Start, Before, Branch};
 ghost use Rattle.allocation.specs.Ranges.{move_fits, main_line_fits, row_fits, item_fits};
 ghost use Rattle.reading.specs.Stages.{held, main_stage};
 ghost use Rattle.allocation.specs.Allocations.{line_at, rows_in, moves_in, allocation_of, nothing};
 ghost use Rattle.reading.specs.Reading.{fresh, opened, turned, with_move, with_main, next_node, stand, with_room, take_item, refused, one_line, finish, run, read_allocation};
+ghost use Rattle.allocation.specs.Lines.{move_count};
 ghost use Rattle.allocation.specs.Rendering.{render};
 ghost use Rattle.reading.specs.States.{state, line_in};
 ghost use Rattle.allocation.specs.WellFormed.{WellFormed};
@@ -263,7 +265,8 @@ impl Reader {
 
     // At the end of the text each node has its main line.
     fn finish(&mut self, line: usize, nodes: u16) -> Result<(), Refusal>
-        ensures { MatchResult result (λ _. finish nodes line (state self.old) ≡ Ok (allocation_of self.new.tables)) (λ e. finish nodes line (state self.old) ≡ Err e) }
+        ensures end { MatchResult result (λ _. finish nodes line (state self.old) ≡ Ok (allocation_of self.new.tables)) (λ e. finish nodes line (state self.old) ≡ Err e) }
+        ensures moves { length (moves_in self.new.tables) ≡ length (moves_in self.old.tables) }
     {
         self.open_node();
         if self.done() == nodes as usize {
@@ -278,7 +281,8 @@ impl Reader {
         requires few { nodes ≤ 256 }
         requires short { length text.now ≤ 32768 }
         requires within { from ≤ length text.now + 1 }
-        ensures { MatchResult result (λ _. run nodes (map fields_of (lines_of (drop from text.now))) (state self.old) 2 ≡ Ok (allocation_of self.new.tables)) (λ e. run nodes (map fields_of (lines_of (drop from text.now))) (state self.old) 2 ≡ Err e) }
+        ensures lines { MatchResult result (λ _. run nodes (map fields_of (lines_of (drop from text.now))) (state self.old) 2 ≡ Ok (allocation_of self.new.tables)) (λ e. run nodes (map fields_of (lines_of (drop from text.now))) (state self.old) 2 ≡ Err e) }
+        ensures moves { (h : Heading) → state self.old ≡ fresh h → h.registers + h.slots ≤ 64 → OnOk result (length (moves_in self.new.tables) ≡ move_count (allocation_of self.new.tables)) }
     {
         let mut at = from;
         let mut number = 2;
@@ -300,6 +304,7 @@ impl Reader {
         ensures heading { IfOk result (λ h. h ≡ self.new.tables.heading) }
         ensures formed { OnOk result (WellFormed parameters nodes (allocation_of self.new.tables)) }
         ensures text { OnOk result (render (allocation_of self.new.tables) ≡ text.now) }
+        ensures moves { OnOk result (length (moves_in self.new.tables) ≡ move_count (allocation_of self.new.tables)) }
     {
         if !is_sized(text) {
             return Err(Refusal::AllocationSize);

@@ -10,7 +10,7 @@ use Rattle.allocation.specs.declared.line.Main.TheVariants.{Skip, Binary}
 use Rattle.text.specs.Parts.{lines_of}
 use Rattle.source.specs.Words.{opcodes}
 use Rattle.source.specs.Reading.{read_source, node_of, read_nodes}
-use Rattle.source.specs.Reading.{heading_of as source-heading}
+use Rattle.source.specs.Reading.{heading_of as source_heading}
 use Rattle.reading.specs.Reading.{read_allocation, run, one_line}
 use Rattle.allocation.specs.Items.{item_of}
 use Rattle.allocation.specs.Headings.{heading_of}
@@ -118,7 +118,7 @@ foreign_b = (
 -- ---- the source with a loop
 
 pub reads_source_c : read_source source_text_c ≡ Ok source_c
-unfolding read_source source-heading node_of read_nodes opcodes lines_of
+unfolding read_source source_heading node_of read_nodes opcodes lines_of
 reads_source_c = refl
 
 pub reads_c : read_allocation 1 4 text_c ≡ Ok allocation_c

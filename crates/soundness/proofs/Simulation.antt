@@ -22,7 +22,11 @@ use Rattle.values.specs.Hosts.{Answers}
 use Rattle.machine.specs.declared.outcome.Outcome.{Outcome}
 use Rattle.machine.specs.declared.outcome.Entry.{Entry}
 use Rattle.machine.specs.declared.outcome.Taken.{Taken}
+<<<<<<< ours
 use Rattle.machine.specs.Machine.{Log, Ending, after as then-drive, Effect, effect, passed, carried, Cells, assign, store, read, write_all, move_all, full, source_step, source_from, start, given, allocated_step, allocated_from, entered}
+=======
+use Rattle.machine.specs.Machine.{Log, Ending, Progress, goes, ends, after as then_drive, drive, Effect, effect, passed, carried, Cells, assign, store, read, write_all, move_all, full, source_step, source_from, source_run, start, given, allocated_step, allocated_from, allocated_run, entered}
+>>>>>>> theirs
 use Rattle.machine.specs.Steps.{main_effect}
 use Rattle.machine.proofs.Ranges.{sound_next}
 use Rattle.machine.proofs.Rules.{drive_full, drive_step}
@@ -164,7 +168,7 @@ module _ {V S : Type 0} (K : Arithmetic V) (E : Answers S V) where
   EndedAlike {A} {B} R = (v : V) (q : Log V S) (x : A) (y : B) → R (record { outcome = Outcome.Ended v; log = q; memory = x }) (record { outcome = Outcome.Ended v; log = q; memory = y })
 
   -- one node carried out on both sides, with the same effect
-  carried_alike : {A B : Type 0} (R : Ending V S A → Ending V S B → Type 0) → EndedAlike R → (n : Node) (t : Taken V) (ts : List (Entry V)) (h : S) (p : Log V S) (x : A) (y : B) (F : Bool → A) (G : Bool → B) (i : Log V S → A → Ending V S A) (j : Log V S → B → Ending V S B) → ((e : Bool) → t ≡ Taken.Edge e → R (i (passed (successor n e) ts h p) (F e)) (j (passed (successor n e) ts h p) (G e))) → R (then-drive (carried n t ts h p x F) i) (then-drive (carried n t ts h p y G) j)
+  carried_alike : {A B : Type 0} (R : Ending V S A → Ending V S B → Type 0) → EndedAlike R → (n : Node) (t : Taken V) (ts : List (Entry V)) (h : S) (p : Log V S) (x : A) (y : B) (F : Bool → A) (G : Bool → B) (i : Log V S → A → Ending V S A) (j : Log V S → B → Ending V S B) → ((e : Bool) → t ≡ Taken.Edge e → R (i (passed (successor n e) ts h p) (F e)) (j (passed (successor n e) ts h p) (G e))) → R (then_drive (carried n t ts h p x F) i) (then_drive (carried n t ts h p y G) j)
   carried_alike R re n (Taken.Edge e) ts h p x y F G i j on = on e refl
   carried_alike R re n (Taken.End v) ts h p x y F G i j on = re v (passed p.node ts h p) x y
 
@@ -177,7 +181,7 @@ module _ {V S : Type 0} (K : Arithmetic V) (E : Answers S V) where
     of_source n = effect K E (Some (action n)) (map f (operands n)) p.host
 
     abbrev Sides : Node → Effect V S → Option ℕ → Type 0
-    Sides n y t = R (then-drive (carried n (of_source n).taken (of_source n).told (of_source n).host p f (λ e. assign (result_of n) (of_source n).value f)) i) (then-drive (carried n y.taken y.told y.host p g (λ e. move_all K (outs e) (record { cells = store t y.value g.cells; moves = g.moves }))) j)
+    Sides n y t = R (then_drive (carried n (of_source n).taken (of_source n).told (of_source n).host p f (λ e. assign (result_of n) (of_source n).value f)) i) (then_drive (carried n y.taken y.told y.host p g (λ e. move_all K (outs e) (record { cells = store t y.value g.cells; moves = g.moves }))) j)
 
     same_action : (n : Node) (m : Main) → main_action m ≡ Some (action n) → Passed (questions k n m) O → Agree K (back_main n m O) f g.cells → Under (length g.cells) (target m) → On n → Sides n (main_effect K E m g.cells p.host) (target m)
     same_action n m e pass h under on =

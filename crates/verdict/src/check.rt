@@ -1,7 +1,7 @@
 // The check of an allocation against its source.
 ghost use Rattle.std.specs.Prelude.{◌≡◌, length, IfOk, Ok, Err, MatchOption, MatchResult};
 ghost use Rattle.source.specs.Tables.{source_in};
-ghost use Rattle.allocation.specs.Allocations.{allocation_of};
+ghost use Rattle.allocation.specs.Allocations.{allocation_of, moves_in};
 ghost use Rattle.allocation.specs.Lines.{move_count};
 ghost use Rattle.equations.specs.Equations.{memory_sets};
 ghost use Rattle.equations.specs.Verdict.{Fits, Accepted, Refused, Left};
@@ -15,7 +15,7 @@ use source::heading::Heading;
 use source::table::Table;
 
 // Refused, or granted with the count of moves.
-fn answer(refusal: Option<Refusal>, count: u32) -> Result<u32, Refusal>
+fn answer(refusal: Option<Refusal>, count: u16) -> Result<u16, Refusal>
     ensures { MatchOption refusal (result ≡ Ok count) (λ f. result ≡ Err f) }
 {
     match refusal {
@@ -31,10 +31,10 @@ pub fn check(
     heading: Heading,
     source: &Table,
     tables: &Tables,
-) -> Result<u32, Refusal>
+) -> Result<u16, Refusal>
     requires { Fits (source_in heading source.now) (allocation_of tables.now) }
     ensures verdict { MatchResult result (λ _. Accepted (source_in heading source.now) (allocation_of tables.now) (length memory.old) (memory_sets memory.new)) (Refused (source_in heading source.now) (allocation_of tables.now) (length memory.old) (memory_sets memory.new)) }
-    ensures count { IfOk result (λ count. count ≡ move_count (allocation_of tables.now)) }
+    ensures count { IfOk result (λ count. count ≡ length (moves_in tables.now)) }
     ensures memory { Left (source_in heading source.now) (allocation_of tables.now) memory.old memory.new }
 {
     let nodes = source.nodes();
@@ -58,7 +58,25 @@ pub fn check(
         arrival,
         heading.parameters,
     );
-    answer(refusal, tables.count_moves())
+    answer(refusal, tables.place())
+}
+
+// The same, with the count of the allocation's moves: tables may hold more of them than belong to it.
+pub fn check_counted(
+    memory: &mut [u64],
+    heading: Heading,
+    source: &Table,
+    tables: &Tables,
+) -> Result<u32, Refusal>
+    requires { Fits (source_in heading source.now) (allocation_of tables.now) }
+    ensures verdict { MatchResult result (λ _. Accepted (source_in heading source.now) (allocation_of tables.now) (length memory.old) (memory_sets memory.new)) (Refused (source_in heading source.now) (allocation_of tables.now) (length memory.old) (memory_sets memory.new)) }
+    ensures count { IfOk result (λ count. count ≡ move_count (allocation_of tables.now)) }
+    ensures memory { Left (source_in heading source.now) (allocation_of tables.now) memory.old memory.new }
+{
+    match check(memory, heading, source, tables) {
+        Ok(_) => Ok(tables.count_moves()),
+        Err(refusal) => Err(refusal),
+    }
 }
 
 // Once each main line matches its node, an allocation is accepted exactly when the least solution fails at no node and

@@ -30,8 +30,8 @@ publish-requires g c =
       placed = placed_all l h nodes live is c.nodes-nodes.ensures.nodes c.live-live.ensures.words places c.args.registers c.in-Some-find_enough.registers c.place.new.out enough.1 c.place.ensures (g.met.P.Placer.lawful c.args.placer.now) enough.0 ok;
     }
 
-pub check-requires : goal.check-requires
-check-requires g c =
+pub check_counted-requires : goal.check_counted-requires
+check_counted-requires g c =
     let l = c.args.loader.now in
     let h = c.in-Some.heading in
     let is = c.in-Some.ensures in
@@ -57,6 +57,6 @@ returns g c =
     let s = source_in h l.tables.nodes in
     let made = published_is l h nodes live is c.nodes-nodes.ensures.nodes c.live-live.ensures.words places c.args.registers c.in-Some-find_enough.registers c.place.new.out enough.1 c.place.ensures (allocation_of t) c.publish.ensures.lines in
     let words = c.args.memory.now in
-    let verdict = of_table h l.tables.nodes c.table.result.now (allocation_of t) words c.check.new.memory c.check.result c.table.ensures.table (record { verdict = c.check.ensures.verdict; count = c.check.ensures.count; memory = c.check.ensures.memory }) in
-    for_loaded places l.loaded h l.tables.nodes (live_words l) c.args.registers words c.check.new.memory (allocation_of t) c.check.result is
-    (answered places (g.met.P.Placer.lawful c.args.placer.now) s (live_words l) c.args.registers ok enough.0 (omega (arith, l.words h (sym is), l.long h (sym is))) (l.few_parameters h (sym is)) words c.check.new.memory (allocation_of t) c.check.result made verdict)
+    let verdict = of_table h l.tables.nodes c.table.result.now (allocation_of t) words c.check_counted.new.memory c.check_counted.result c.table.ensures.table (record { verdict = c.check_counted.ensures.verdict; count = c.check_counted.ensures.count; memory = c.check_counted.ensures.memory }) in
+    for_loaded places l.loaded h l.tables.nodes (live_words l) c.args.registers words c.check_counted.new.memory (allocation_of t) c.check_counted.result is
+    (answered places (g.met.P.Placer.lawful c.args.placer.now) s (live_words l) c.args.registers ok enough.0 (omega (arith, l.words h (sym is), l.long h (sym is))) (l.few_parameters h (sym is)) words c.check_counted.new.memory (allocation_of t) c.check_counted.result made verdict)

@@ -14,5 +14,5 @@ invariant_of-self-in-Ok c =
     let h = c.in-Some.heading in record {
       accepted = stands h e.loader.tables.nodes c.copy_from.new.self c.offer.new.spare.tables c.exchange.new.tables _
           (c.copy_from.ensures ∙ ap nodes_in c.table.ensures.table) c.exchange.ensures.given
-          (offer_stands e.loader.loaded h e.loader.tables.nodes c.args.text.now c.args.memory.now _ _ c.in-Ok.count (sym c.in-Some.ensures) c.in-Ok.ensures);
+          (offer_stands e.loader.loaded h e.loader.tables.nodes c.args.text.now c.args.memory.now _ _ c.in-Ok.count (sym c.in-Some.ensures) c.in-Ok.ensures.answer);
     }

@@ -8,9 +8,15 @@ pub returns-then-done-nodes : goal.returns-then-done-nodes
 returns-then-done-nodes c =
     let r = c.open_node.new.self in
     let e = c.open_node.ensures in
-    finish_ok c.args.nodes c.args.line (state c.args.self.now) (state r) e (omega (arith, done_long r, c.done.ensures)) ∙ ap Ok (whole_is r (ap (λ s. s.stage) e))
+    record {
+      end = finish_ok c.args.nodes c.args.line (state c.args.self.now) (state r) e (omega (arith, done_long r, c.done.ensures)) ∙ ap Ok (whole_is r (ap (λ s. s.stage) e));
+      moves = ap (λ s. s.moves) e;
+    }
 
 pub returns-else-done-nodes : goal.returns-else-done-nodes
 returns-else-done-nodes c =
     let r = c.open_node.new.self in
-    finish-not c.args.nodes c.args.line (state c.args.self.now) (state r) c.open_node.ensures (omega (arith, done_long r, c.done.ensures))
+    record {
+      end = finish-not c.args.nodes c.args.line (state c.args.self.now) (state r) c.open_node.ensures (omega (arith, done_long r, c.done.ensures));
+      moves = ap (λ s. s.moves) c.open_node.ensures;
+    }
