@@ -26,13 +26,8 @@ use Rattle.allocation.specs.Items.{item_of}
 use Rattle.reading.specs.Stages.{main_stage}
 use Rattle.allocation.specs.Allocations.{Line, Allocation}
 use Rattle.allocation.specs.Rendering.{move_fields, main_fields, item_fields, move_rows, line_rows, lines_rows, heading_fields, rows_of, render}
-<<<<<<< ours
-use Rattle.reading.specs.Reading.{State, fresh, begun, closed, pending, opened, with_in, with_out, with_alt, with_move, with_main, and_go, next_node, stand, with_room, take_item, take_line, one_line, whole, run, started, headed, read_allocation}
-use Rattle.allocation.specs.Lines.{line_moves, lines_moves}
-=======
-use Rattle.reading.specs.Reading.{State, fresh, begun, closed, pending, opened, turned, with_in, with_out, with_alt, with_move, with_main, and_go, if_stands, next_node, stand, with_room, take_item, take_line, one_line, whole, finish, run, started, headed, read_allocation}
+use Rattle.reading.specs.Reading.{State, fresh, begun, closed, pending, opened, with_in, with_out, with_alt, with_move, with_main, and_go, next_node, stand, with_room, take_item, take_line, one_line, whole, finish, run, started, headed, read_allocation}
 use Rattle.allocation.specs.Lines.{line_moves, lines_moves, move_count}
->>>>>>> theirs
 use Rattle.allocation.specs.WellFormed.{MovesIn, Shaped, LineIn, WellFormed}
 use Rattle.reading.specs.Laws.{WrittenBack, ReadsWell}
 use Rattle.allocation.proofs.ItemLaws.{item_read, Says}

@@ -22,11 +22,7 @@ use Rattle.values.specs.Hosts.{Answers}
 use Rattle.machine.specs.declared.outcome.Outcome.{Outcome}
 use Rattle.machine.specs.declared.outcome.Entry.{Entry}
 use Rattle.machine.specs.declared.outcome.Taken.{Taken}
-<<<<<<< ours
-use Rattle.machine.specs.Machine.{Log, Ending, after as then-drive, Effect, effect, passed, carried, Cells, assign, store, read, write_all, move_all, full, source_step, source_from, start, given, allocated_step, allocated_from, entered}
-=======
-use Rattle.machine.specs.Machine.{Log, Ending, Progress, goes, ends, after as then_drive, drive, Effect, effect, passed, carried, Cells, assign, store, read, write_all, move_all, full, source_step, source_from, source_run, start, given, allocated_step, allocated_from, allocated_run, entered}
->>>>>>> theirs
+use Rattle.machine.specs.Machine.{Log, Ending, after as then_drive, Effect, effect, passed, carried, Cells, assign, store, read, write_all, move_all, full, source_step, source_from, start, given, allocated_step, allocated_from, entered}
 use Rattle.machine.specs.Steps.{main_effect}
 use Rattle.machine.proofs.Ranges.{sound_next}
 use Rattle.machine.proofs.Rules.{drive_full, drive_step}
