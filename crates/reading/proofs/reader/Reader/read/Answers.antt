@@ -1,4 +1,4 @@
-use Rattle.std.proofs.Common.{◌≡◌, true, map, drop, Some, None, sym, ap, ◌∙◌}
+use Rattle.std.proofs.Common.{◌≡◌, true, map, drop, Some, None, sym, ap, ◌∙◌, arith}
 use Rattle.text.specs.Parts.{lines_of, fields_of, sized}
 use Rattle.reading.specs.Reading.{run}
 use Rattle.reading.proofs.Runs.{not-sized, is_headed}
