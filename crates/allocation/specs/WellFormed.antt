@@ -1,6 +1,6 @@
 -- Allocations that have a text.
 use Rattle.std.specs.Prelude.{◌≡◌, ℕ, ◌<◌, ◌≤◌, true, List, [], length}
-use Rattle.std.specs.List.{AllByRecursion as All}
+use Rattle.std.specs.List.{AllByRecursion}
 use Rattle.allocation.specs.declared.line.Move.{Move}
 use Rattle.allocation.specs.declared.line.Main.{Main}
 use Rattle.allocation.specs.declared.line.Main.TheVariants.{Skip, Const, Binary, Call, Branch, Return}
@@ -10,7 +10,7 @@ use Rattle.allocation.specs.Lines.{line_of, line_moves, move_count}
 
 -- each move is in range
 abbrev pub MovesIn : ℕ → ℕ → List Move → Type 0
-MovesIn r s ms = All (λ m. move_fits r s m ≡ true) ms
+MovesIn r s ms = AllByRecursion (λ m. move_fits r s m ≡ true) ms
 
 -- only a branch has `alt` moves, and a return has no moves after it
 abbrev pub Shaped : Main → List Move → List Move → Type 0
@@ -39,7 +39,7 @@ pub record WellFormed (p n : ℕ) (a : Allocation) : Type 0 where
   pub few_nodes : n ≤ 256
   pub few_moves : move_count a ≤ 1024
   pub entry_in : MovesIn a.registers a.slots a.entry
-  pub lines_in : All (LineIn a.registers a.slots) a.lines
+  pub lines_in : AllByRecursion (LineIn a.registers a.slots) a.lines
 
 -- few moves: at most 8 before node 0, and at most 3 at each of the n nodes
 pub record FewMoves (n : ℕ) (a : Allocation) : Type 0 where

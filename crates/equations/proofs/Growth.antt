@@ -1,7 +1,7 @@
 -- The equations are monotone, and depend on the sets of nodes only.
 use Rattle.std.proofs.Common.{◌≡◌, ℕ, ◌<◌, Bool, true, false, not, ◌&&◌, ◌||◌, eqb, List, [], ◌∷◌, length, Some, None, Option, refl, ap, ap₂}
 use mathlib.Core.Path.{fun_ext}
-use Rattle.std.specs.List.{AllByRecursion as All}
+use Rattle.std.specs.List.{AllByRecursion}
 use Rattle.allocation.specs.Lines.{edge_moves}
 use Rattle.sets.specs.Masks.{any, names}
 use Rattle.sets.specs.Least.{Within}
@@ -64,11 +64,11 @@ moves_mono (m ∷ ms) E G s = move_mono (back_moves ms E) (back_moves ms G) (mov
 main_mono : (node : Node) (main : Main) (E G : ℕ × ℕ → Bool) → Sub E G → Sub (back_main node main E) (back_main node main G)
 main_mono node main E G s = used_mono (unset node main E) (unset node main G) (unset_mono E G s node main) (operands node) (origins main)
 
-any_mono_on : {A : Type 0} (p q : A → Bool) (xs : List A) → All (λ x. p x ≡ true → q x ≡ true) xs → any p xs ≡ true → any q xs ≡ true
+any_mono_on : {A : Type 0} (p q : A → Bool) (xs : List A) → AllByRecursion (λ x. p x ≡ true → q x ≡ true) xs → any p xs ≡ true → any q xs ≡ true
 any_mono_on p q [] f e = e
 any_mono_on p q (x ∷ xs) f e = or_mono (p x) (any p xs) (q x) (any q xs) f.0 (any_mono_on p q xs f.1) e
 
-any_same_on : {A : Type 0} (p q : A → Bool) (xs : List A) → All (λ x. p x ≡ q x) xs → any p xs ≡ any q xs
+any_same_on : {A : Type 0} (p q : A → Bool) (xs : List A) → AllByRecursion (λ x. p x ≡ q x) xs → any p xs ≡ any q xs
 any_same_on p q [] f = refl
 any_same_on p q (x ∷ xs) f = ap₂ ◌||◌ f.0 (any_same_on p q xs f.1)
 

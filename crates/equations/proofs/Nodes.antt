@@ -1,7 +1,7 @@
 -- Nodes: their operands and edges, and the set after one.
 use Rattle.std.proofs.Common.{◌≡◌, ℕ, ◌<◌, Bool, true, false, cond, ◌||◌, ◌⊎◌, List, [], ◌∷◌, sym, refl, ap, ◌∙◌, subst, inl, inr}
 use mathlib.Core.Path.{fun_ext}
-use Rattle.std.specs.List.{AllByRecursion as All}
+use Rattle.std.specs.List.{AllByRecursion}
 use Rattle.sets.specs.Masks.{any, Below}
 use Rattle.source.specs.Nodes.{operands, edges, successor, Sound}
 use Rattle.source.specs.declared.node.Operation.{Operation}
@@ -21,7 +21,7 @@ operands-below v n (Branch c a b taken other) s = (s.0, (s.1, tt))
 operands-below v n (Return a) s = (s, tt)
 
 -- what holds of every edge to a node below n holds of the edges of a sound node
-pub edges_all : (v n : ℕ) (node : Node) → Sound v n node → (P : Bool → Type 0) → ((b : Bool) → successor node b < n → P b) → All P (edges node)
+pub edges_all : (v n : ℕ) (node : Node) → Sound v n node → (P : Bool → Type 0) → ((b : Bool) → successor node b < n → P b) → AllByRecursion P (edges node)
 edges_all v n (Const d k next) s P f = (f true s.2, tt)
 edges_all v n (Mov d a next) s P f = (f true s.2, tt)
 edges_all v n (Binary o d a b next) s P f = (f true s.3, tt)
@@ -44,7 +44,7 @@ plain_edge node next (inr (inr (inr p))) = (ap edges p.4, ap (λ (x : Node). suc
 pub plain-below : (v n : ℕ) (node : Node) (next : ℕ) → Sound v n node → Plain node next → next < n
 plain-below v n node next s p =
     let e = plain_edge node next p in
-    let all = subst (All (λ b. successor node b < n)) e.0 (edges_all v n node s (λ b. successor node b < n) (λ b l. l)) in
+    let all = subst (AllByRecursion (λ b. successor node b < n)) e.0 (edges_all v n node s (λ b. successor node b < n) (λ b l. l)) in
     subst (λ (k : ℕ). k < n) e.1 all.0
 
 or-none : (x : Bool) → x ≡ (x || false)

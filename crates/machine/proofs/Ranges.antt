@@ -1,7 +1,7 @@
 -- What the tables of a run keep in range.
 use Rattle.std.proofs.Common.{◌≡◌, ℕ, ◌+◌, ◌-◌, ◌<◌, ◌≤◌, Bool, true, false, ◌&&◌, leb, List, [], map, length, get_or, sym, ap, ◌∙◌, subst, arith}
 use lib.ListN.{get_or-map}
-use Rattle.std.specs.List.{between, AllByRecursion as All}
+use Rattle.std.specs.List.{between, AllByRecursion}
 use Rattle.std.proofs.lemmas.List.Edits.{length-between, get_or-between}
 use Rattle.std.proofs.lemmas.Bool.{and_parts}
 use Rattle.std.proofs.lemmas.Bool.Decides.{nat_tests}
@@ -43,10 +43,10 @@ row_parts r len row e =
     record { main = a.0; ins = grind (arith, nat_tests); outs = grind (arith, nat_tests); alts = grind (arith, nat_tests); end = grind (arith, nat_tests) }
 
 -- the registers that a main line reads are among k cells
-pub origins-below : (r k : ℕ) (m n : Main) → m ≡ n → main_line_fits r m ≡ true → r ≤ k → All (λ l. l < k) (origins n)
+pub origins-below : (r k : ℕ) (m n : Main) → m ≡ n → main_line_fits r m ≡ true → r ≤ k → AllByRecursion (λ l. l < k) (origins n)
 origins-below r k m n is fits wide = go n (sym (ap (main_line_fits r) is) ∙ fits)
   where
-    go : (n : Main) → main_line_fits r n ≡ true → All (λ l. l < k) (origins n)
+    go : (n : Main) → main_line_fits r n ≡ true → AllByRecursion (λ l. l < k) (origins n)
     go Main.Skip e = tt
     go (Main.Const l i) e = tt
     go (Main.Binary o l a b) e = (grind (arith, nat_tests), (grind (arith, nat_tests), tt))

@@ -3,7 +3,7 @@ use Rattle.std.proofs.Common.{◌≡◌, ℕ, ◌+◌, ◌<◌, ◌≤◌, Bool,
 use Rattle.std.proofs.lemmas.List.{append_assoc, append-nil, map_push, length_push}
 use Rattle.std.proofs.ByRecursion.{All-push}
 use Rattle.std.proofs.lemmas.Bool.{ltb-true, eqb-true}
-use Rattle.std.specs.List.{AllByRecursion as All}
+use Rattle.std.specs.List.{AllByRecursion}
 use Rattle.text.specs.Parts.{lines_of, fields_of, sized, written}
 use Rattle.text.specs.Fields.{shape_of}
 use Rattle.text.specs.declared.fields.Fault.{Fault}
@@ -66,7 +66,7 @@ rows_so_far st = move_rows st.heading.registers Entry st.entry ++ (lines_rows st
 pub record Sound (n : ℕ) (st : State) : Type 0 where
   pub few : st.heading.registers + st.heading.slots ≤ 64
   pub entry_in : MovesIn st.heading.registers st.heading.slots st.entry
-  pub done_in : All (LineIn st.heading.registers st.heading.slots) st.done
+  pub done_in : AllByRecursion (LineIn st.heading.registers st.heading.slots) st.done
   pub count : st.moves ≡ length st.entry + lines_moves st.done + open_moves st.stage st.line
   pub few_moves : st.moves ≤ 1024
   pub fits : Fits st.heading.registers st.heading.slots n st.stage st.done st.line
@@ -100,7 +100,7 @@ module _ (n : ℕ) (h : Heading) (entry : List Move) (done : List Line) (l : Lin
   held_rows : move_rows h.registers Entry entry ++ (lines_rows h.registers (done ++ l ∷ []) ++ []) ≡ move_rows h.registers Entry entry ++ (lines_rows h.registers done ++ line_rows h.registers l)
   held_rows = ap (λ t. move_rows h.registers Entry entry ++ t) (append-nil (lines_rows h.registers (done ++ l ∷ [])) ∙ lines_rows-push h.registers done l)
 
-  held-sound : h.registers + h.slots ≤ 64 → MovesIn h.registers h.slots entry → All (LineIn h.registers h.slots) done → moves ≡ length entry + lines_moves done + line_moves l → moves ≤ 1024 → LineIn h.registers h.slots l → length (done ++ l ∷ []) < n → Sound n next
+  held-sound : h.registers + h.slots ≤ 64 → MovesIn h.registers h.slots entry → AllByRecursion (LineIn h.registers h.slots) done → moves ≡ length entry + lines_moves done + line_moves l → moves ≤ 1024 → LineIn h.registers h.slots l → length (done ++ l ∷ []) < n → Sound n next
   held-sound few e d c m i lt = record { few = few; entry_in = e; done_in = All-push _ done l d i; count = omega (arith, lines_moves-push done l); few_moves = m; fits = (tt, lt) }
 
   opened-sound : (g : Stage) → Sound n (at g) → length (closed g done l) < n → Sound n (opened (at g)) × (rows_so_far (opened (at g)) ≡ rows_so_far (at g))
@@ -335,7 +335,7 @@ record Ran (n : ℕ) (st : State) (rows : List (List (List ℕ))) (a : Allocatio
   pub nodes : length a.lines ≡ n
   pub few_moves : length a.entry + lines_moves a.lines ≤ 1024
   pub entry_in : MovesIn a.registers a.slots a.entry
-  pub lines_in : All (LineIn a.registers a.slots) a.lines
+  pub lines_in : AllByRecursion (LineIn a.registers a.slots) a.lines
 
 module _ (n : ℕ) (h : Heading) (entry : List Move) (done : List Line) (l : Line) (moves : ℕ) where
   abbrev there : Stage → State

@@ -1,6 +1,6 @@
 -- How long the text of a well-formed allocation can be.
 use Rattle.std.proofs.Common.{◌≡◌, ℕ, ◌+◌, ◌-◌, ◌*◌, ◌<◌, ◌≤◌, Bool, true, false, cond, ◌&&◌, ltb, List, [], ◌∷◌, ◌++◌, length, codes, decimal, ◌∙◌, arith}
-use Rattle.std.specs.List.{AllByRecursion as All}
+use Rattle.std.specs.List.{AllByRecursion}
 use Rattle.std.proofs.lemmas.Fmt.{length-decimal-le}
 use Rattle.std.proofs.lemmas.List.{length-append}
 use Rattle.std.proofs.lemmas.Bool.{and_parts, ltb-true}
@@ -119,7 +119,7 @@ module _ (r s : ℕ) (few-registers : r ≤ 16) (few-slots : s ≤ 48) where
         moves_short Alt l.alts ok.alts_in,
       )
 
-  lines_short : (ls : List Line) → All (LineIn r s) ls → size (lines_rows r ls) ≤ 21 * length ls + 14 * lines_moves ls
+  lines_short : (ls : List Line) → AllByRecursion (LineIn r s) ls → size (lines_rows r ls) ≤ 21 * length ls + 14 * lines_moves ls
   unfolding written
   lines_short [] ok = omega arith
   lines_short (l ∷ ls) ok = omega (arith, size_append (line_rows r l) (lines_rows r ls), line_short l ok.0, lines_short ls ok.1)

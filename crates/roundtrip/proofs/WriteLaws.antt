@@ -2,7 +2,7 @@
 use Rattle.std.proofs.Common.{◌≡◌, ℕ, ◌+◌, ◌<◌, ◌≤◌, true, cond, eqb, List, [], ◌∷◌, ◌++◌, length, Ok, Err, sym, refl, ap, ◌∙◌, subst, arith}
 use Rattle.std.proofs.lemmas.List.{append_assoc, append-nil, length_push}
 use Rattle.std.proofs.lemmas.Bool.{cond-true, lt-ltb, eq-eqb}
-use Rattle.std.specs.List.{AllByRecursion as All}
+use Rattle.std.specs.List.{AllByRecursion}
 use Rattle.text.proofs.TextLaws.{Plain, AllPlain, cut_written, sized-written}
 use Rattle.refusal.specs.declared.Refusal.TheVariants.{MissingNodes}
 use Rattle.allocation.specs.declared.heading.Heading.{Heading}
@@ -217,7 +217,7 @@ module _ (n : ℕ) (h : Heading) (few : h.registers + h.slots ≤ 64) (a : Alloc
   held_opens Return k entry done l moves = refl
 
   -- the lines of all nodes
-  lines_read : (ls : List Line) → All (LineIn r h.slots) ls → (st : State) (entry : List Move) (done : List Line) (moves : ℕ) → opened st ≡ at Before entry done (begun []) moves → st.heading ≡ h → length done + length ls ≡ n → moves + lines_moves ls ≤ 1024 → record { registers = r; slots = h.slots; entry = entry; lines = done ++ ls } ≡ a → Reads st (lines_rows r ls)
+  lines_read : (ls : List Line) → AllByRecursion (LineIn r h.slots) ls → (st : State) (entry : List Move) (done : List Line) (moves : ℕ) → opened st ≡ at Before entry done (begun []) moves → st.heading ≡ h → length done + length ls ≡ n → moves + lines_moves ls ≤ 1024 → record { registers = r; slots = h.slots; entry = entry; lines = done ++ ls } ≡ a → Reads st (lines_rows r ls)
   unfolding run Reads
   lines_read [] ok st entry done moves is same count room all = λ k.
       ap (λ t. cond (eqb (length t.done) n) (Ok (whole t)) (Err (MissingNodes k))) is
@@ -230,7 +230,7 @@ module _ (n : ℕ) (h : Heading) (few : h.registers + h.slots ≤ 64) (a : Alloc
       (ap (λ d. record { registers = r; slots = h.slots; entry = entry; lines = d }) (append_assoc done (l ∷ []) ls) ∙ all))))
 
   -- all lines after the heading
-  pub all_read : (entry : List Move) (ls : List Line) → MovesIn r h.slots entry → All (LineIn r h.slots) ls → length ls ≡ n → length entry + lines_moves ls ≤ 1024 → record { registers = r; slots = h.slots; entry = entry; lines = ls } ≡ a → (k : ℕ) → run n (move_rows r Entry entry ++ lines_rows r ls) (fresh h) k ≡ Ok a
+  pub all_read : (entry : List Move) (ls : List Line) → MovesIn r h.slots entry → AllByRecursion (LineIn r h.slots) ls → length ls ≡ n → length entry + lines_moves ls ≤ 1024 → record { registers = r; slots = h.slots; entry = entry; lines = ls } ≡ a → (k : ℕ) → run n (move_rows r Entry entry ++ lines_rows r ls) (fresh h) k ≡ Ok a
   unfolding Reads
   all_read entry ls ok also count room all =
       let zero : 0 + length entry ≡ length entry = omega arith in
@@ -248,7 +248,7 @@ module _ (h : Heading) (few : h.registers + h.slots ≤ 64) where
   moves_plain e [] ok = tt
   moves_plain e (m ∷ ms) ok = (item_plain h few (item.Move e m) ok.0, moves_plain e ms ok.1)
 
-  lines_plain : (ls : List Line) → All (LineIn h.registers h.slots) ls → AllPlain (lines_rows h.registers ls)
+  lines_plain : (ls : List Line) → AllByRecursion (LineIn h.registers h.slots) ls → AllPlain (lines_rows h.registers ls)
   lines_plain [] ok = tt
   lines_plain (l ∷ ls) ok =
       plain-append (line_rows h.registers l) (lines_rows h.registers ls)

@@ -1,7 +1,7 @@
 -- Temporaries and cells that agree on a set of equations, and how each step keeps it.
 use Rattle.std.proofs.Common.{◌≡◌, ℕ, ◌<◌, ◌≤◌, Bool, true, false, cond, not, ◌&&◌, ◌||◌, eqb, List, [], ◌∷◌, map, length, get_or, set, Some, None, sym, refl, ap, ◌∙◌, ap₂, ⊎_elim, arith, length-set, get_or-set_other, get_or-set_same}
 use Rattle.std.proofs.lemmas.Bool.{cases_eq, eq-eqb, ne_eqb}
-use Rattle.std.specs.List.{AllByRecursion as All}
+use Rattle.std.specs.List.{AllByRecursion}
 use Rattle.allocation.specs.declared.line.Move.{Move}
 use Rattle.equations.specs.Equations.{back_move, back_moves, renamed, dropped, used}
 use Rattle.values.specs.Kinds.{Arithmetic}
@@ -93,7 +93,7 @@ module _ {V : Type 0} (K : Arithmetic V) where
   length_moves [] c = refl
   length_moves (m ∷ ms) c = length_moves ms (move_one K m c) ∙ length-set c.cells m.to (read K c.cells m.from)
 
-  pub agree_moves : (ms : List Move) (E : ℕ × ℕ → Bool) (f : ℕ → V) (c : Cells V) (k : ℕ) → k ≤ length c.cells → All (λ m. m.to < k) ms → Agree (back_moves ms E) f c.cells → Agree E f (move_all K ms c).cells
+  pub agree_moves : (ms : List Move) (E : ℕ × ℕ → Bool) (f : ℕ → V) (c : Cells V) (k : ℕ) → k ≤ length c.cells → AllByRecursion (λ m. m.to < k) ms → Agree (back_moves ms E) f c.cells → Agree E f (move_all K ms c).cells
   unfolding back_moves
   agree_moves [] E f c k room within h = h
   agree_moves (m ∷ ms) E f c k room within h =

@@ -2,7 +2,7 @@
 use Rattle.std.proofs.Common.{◌≡◌, ℕ, zero, suc, ◌+◌, ◌<◌, ◌≤◌, Bool, true, false, ◌||◌, ◌⊎◌, List, [], ◌∷◌, map, length, get_or, set, is_some, Some, None, Option, sym, refl, ap, ◌∙◌, subst, ap₂, subst₂, ⊎_elim, arith, length-set, get_or-set_other, get_or-set_same}
 use Rattle.std.proofs.lemmas.Bool.{cases_Bool, both_ways}
 use Rattle.std.proofs.lemmas.Bool.Decides.{nat_tests}
-use Rattle.std.specs.List.{AllByRecursion as All}
+use Rattle.std.specs.List.{AllByRecursion}
 use Rattle.sets.specs.Masks.{any}
 use Rattle.source.specs.Nodes.{Action, const, mov, binary, call, branch, return, action, node_at, result_of, operands, edges, successor}
 use Rattle.source.specs.Reading.{Source}
@@ -122,7 +122,7 @@ target_under r k (Main.Return a) h e = tt
 move_to : (r s : ℕ) (m : Move) → move_fits r s m ≡ true → m.to < r + s
 move_to r s m e = grind (arith, nat_tests)
 
-all_to : (a : Allocation) (ms : List Move) → MovesIn a.registers a.slots ms → All (λ m. m.to < a.registers + a.slots) ms
+all_to : (a : Allocation) (ms : List Move) → MovesIn a.registers a.slots ms → AllByRecursion (λ m. m.to < a.registers + a.slots) ms
 all_to a [] h = tt
 all_to a (m ∷ ms) h = (move_to a.registers a.slots m h.0, all_to a ms h.1)
 

@@ -1,6 +1,6 @@
 -- A node that is sound by the test is sound by the statement, and the other way.
 use Rattle.std.proofs.Common.{◌≡◌, ℕ, zero, suc, ◌^◌, ◌<◌, Bool, true, ◌&&◌, ltb, List, [], ◌∷◌, length, arith}
-use Rattle.std.specs.List.{AllByRecursion as All}
+use Rattle.std.specs.List.{AllByRecursion}
 use Rattle.std.proofs.lemmas.Bool.{and_parts, and_from, ltb-true, lt-ltb}
 use Rattle.source.specs.Nodes.{Sound, sound, AllSound, node_at}
 use Rattle.source.specs.declared.node.Node.{Node}
@@ -34,7 +34,7 @@ pub all_sound : (v : ℕ) (nodes : List Node) → AllSound v nodes → (n : ℕ)
 all_sound v nodes s n h = sound_is v (length nodes) (node_at nodes n) (s n h)
 
 -- what holds of each node of a list holds at each place
-pub sound-at : (v n : ℕ) (nodes : List Node) → All (Sound v n) nodes → (i : ℕ) → i < length nodes → sound v n (node_at nodes i) ≡ true
+pub sound-at : (v n : ℕ) (nodes : List Node) → AllByRecursion (Sound v n) nodes → (i : ℕ) → i < length nodes → sound v n (node_at nodes i) ≡ true
 sound-at v n [] all i h = absurd (omega arith)
 sound-at v n (x ∷ xs) all zero h = is_sound v n x all.0
 sound-at v n (x ∷ xs) all (suc i) h = sound-at v n xs all.1 i (omega arith)

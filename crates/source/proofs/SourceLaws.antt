@@ -3,7 +3,7 @@ use Rattle.std.proofs.Common.{◌≡◌, ℕ, suc, ◌+◌, ◌*◌, ◌^◌, �
 use Rattle.std.proofs.lemmas.List.{length-map, length-append}
 use Rattle.std.proofs.lemmas.Bool.{cond-true, cond-false, eq-eqb, ne_eqb, eqb-true}
 use Rattle.std.proofs.lemmas.Fmt.{length-decimal-le}
-use Rattle.std.specs.List.{AllByRecursion as All}
+use Rattle.std.specs.List.{AllByRecursion}
 use Rattle.std.specs.Option.{option_map}
 use Rattle.text.specs.Parts.{lines_of, fields_of, sized, ended, written}
 use Rattle.text.specs.Fields.{shape_of, shapes_of, number_between, word_in, and_then}
@@ -91,7 +91,7 @@ module _ (h : Heading) (w : Few h) where
   -- the lines are those of the nodes, whose numbers are in range
   pub record Nodes (ls : List (List ℕ)) (ns : List Node) : Type 0 where
     pub fields : map fields_of ls ≡ map node_fields ns
-    pub sound : All (Sound h.temporaries h.nodes) ns
+    pub sound : AllByRecursion (Sound h.temporaries h.nodes) ns
     pub long : length ns ≡ length ls
 
   pub nodes_read : (k : ℕ) (ls : List (List ℕ)) (ns : List Node) → read_nodes h k ls ≡ Ok ns → Nodes ls ns
@@ -110,7 +110,7 @@ module _ (h : Heading) (w : Few h) where
       first ih (Err f) q e' = grind arith
       first ih (Ok n) q e' = rest n (node_read h w n (fields_of l) q) (read_nodes h (k + 1) ls) ih e'
 
-  nodes_written : (k : ℕ) (ls : List (List ℕ)) (ns : List Node) → map fields_of ls ≡ map node_fields ns → All (Sound h.temporaries h.nodes) ns → read_nodes h k ls ≡ Ok ns
+  nodes_written : (k : ℕ) (ls : List (List ℕ)) (ns : List Node) → map fields_of ls ≡ map node_fields ns → AllByRecursion (Sound h.temporaries h.nodes) ns → read_nodes h k ls ≡ Ok ns
   unfolding read_nodes node_of
   nodes_written k [] [] e s = refl
   nodes_written k [] (n ∷ ns) e s = let z : ◌≡◌ {A = ℕ} 0 1 = cc in absurd (omega arith)
@@ -186,7 +186,7 @@ read_is_written bs s e =
         temporaries_few = omega (arith, a.1.temporaries_few, f.temporaries);
         nodes_some = omega (arith, a.1.nodes_some);
         nodes_few = omega (arith, a.1.nodes_few);
-        sound = subst (λ v. All (Sound v (length s.nodes)) s.nodes) (sym f.temporaries) (subst (λ m. All (Sound h.temporaries m) s.nodes) (sym n) b.sound);
+        sound = subst (λ v. AllByRecursion (Sound v (length s.nodes)) s.nodes) (sym f.temporaries) (subst (λ m. AllByRecursion (Sound h.temporaries m) s.nodes) (sym n) b.sound);
       },
       sym (written_cut bs f.good) ∙ ap (λ ls. written (map fields_of ls)) f.cut
           ∙ (λ i. written ((a.0 ∙ (λ j. codes "source" ∷ decimal (sym f.parameters j) ∷ decimal (sym f.temporaries j) ∷ decimal (sym n j) ∷ [])) i ∷ b.fields i)),
@@ -199,18 +199,18 @@ pub record Clean (f : List ℕ) : Type 0 where
   pub no_end : Lacks 10 f
   pub short : length f ≤ 10
 
-plain : (fs : List (List ℕ)) → 0 < length fs → All Clean fs → Plain fs
+plain : (fs : List (List ℕ)) → 0 < length fs → AllByRecursion Clean fs → Plain fs
 plain fs some c = record { some = some; no_tab = tabs fs c; no_end = ends fs c }
   where
-    tabs : (gs : List (List ℕ)) → All Clean gs → AllLack 9 gs
+    tabs : (gs : List (List ℕ)) → AllByRecursion Clean gs → AllLack 9 gs
     tabs [] d = tt
     tabs (g ∷ gs) d = (d.0.no_tab, tabs gs d.1)
 
-    ends : (gs : List (List ℕ)) → All Clean gs → AllLack 10 gs
+    ends : (gs : List (List ℕ)) → AllByRecursion Clean gs → AllLack 10 gs
     ends [] d = tt
     ends (g ∷ gs) d = (d.0.no_end, ends gs d.1)
 
-row_short : (fs : List (List ℕ)) → All Clean fs → length (ended fs) ≤ 11 * length fs
+row_short : (fs : List (List ℕ)) → AllByRecursion Clean fs → length (ended fs) ≤ 11 * length fs
 row_short [] c = omega arith
 row_short (p ∷ []) c = omega (arith, length-append p (10 ∷ []), c.0.short)
 row_short (p ∷ q ∷ ps) c = omega (arith, length-append p (9 ∷ ended (q ∷ ps)), c.0.short, row_short (q ∷ ps) c.1)
@@ -225,7 +225,7 @@ opcode_clean o = record { no_tab = opcode_inverse.lacks 9 (omega arith) o tt; no
 pub record Line (fs : List (List ℕ)) : Type 0 where
   pub some : 0 < length fs
   pub few : length fs ≤ 6
-  pub clean : All Clean fs
+  pub clean : AllByRecursion Clean fs
 
 module _ (v n : ℕ) (small : v ≤ 48) (few_nodes : n ≤ 256) where
   node_line : (x : Node) → Sound v n x → Line (node_fields x)
@@ -243,15 +243,15 @@ module _ (v n : ℕ) (small : v ≤ 48) (few_nodes : n ≤ 256) where
       }
   node_line (Return a) s = record { some = omega arith; few = omega arith; clean = (opcode_clean opcode.Return, (number_clean a (omega arith), tt)) }
 
-  node_lines : (ns : List Node) → All (Sound v n) ns → All Line (map node_fields ns)
+  node_lines : (ns : List Node) → AllByRecursion (Sound v n) ns → AllByRecursion Line (map node_fields ns)
   node_lines [] s = tt
   node_lines (x ∷ ns) s = (node_line x s.0, node_lines ns s.1)
 
-lines_plain : (ls : List (List (List ℕ))) → All Line ls → AllPlain ls
+lines_plain : (ls : List (List (List ℕ))) → AllByRecursion Line ls → AllPlain ls
 lines_plain [] c = tt
 lines_plain (fs ∷ ls) c = (plain fs c.0.some c.0.clean, lines_plain ls c.1)
 
-lines_short : (ls : List (List (List ℕ))) → All Line ls → length (written ls) ≤ 66 * length ls
+lines_short : (ls : List (List (List ℕ))) → AllByRecursion Line ls → length (written ls) ≤ 66 * length ls
 unfolding written
 lines_short [] c = omega arith
 lines_short (fs ∷ ls) c = omega (arith, length-append (ended fs) (written ls), row_short fs c.0.clean, c.0.few, lines_short ls c.1)
@@ -262,7 +262,7 @@ written_is_read s w =
     let h : Heading = record { parameters = s.parameters; temporaries = s.temporaries; nodes = length s.nodes } in
     let hw : HeadingIn h = record { parameters_few = w.parameters_few; parameters_within = w.parameters_within; temporaries_some = w.temporaries_some; temporaries_few = w.temporaries_few; nodes_some = w.nodes_some; nodes_few = w.nodes_few } in
     let rows = heading_fields s ∷ map node_fields s.nodes in
-    let all : All Line rows = (
+    let all : AllByRecursion Line rows = (
       record { some = omega arith; few = omega arith; clean = (record { no_tab = title_inverse.lacks 9 (omega arith) title.Source tt; no_end = title_inverse.lacks 10 (omega arith) title.Source tt; short = omega arith }, (number_clean s.parameters (omega (arith, w.parameters_few)), (number_clean s.temporaries (omega (arith, w.temporaries_few)), (number_clean (length s.nodes) (omega (arith, w.nodes_few)), tt)))) },
       node_lines s.temporaries (length s.nodes) w.temporaries_few w.nodes_few s.nodes w.sound,
     ) in
@@ -276,7 +276,7 @@ written_is_read s w =
         let more : map fields_of ls ≡ map node_fields s.nodes = cc in
         let head : heading_of (shapes_of l) ≡ Some h = ap (λ fs. heading_of (map shape_of fs)) (here ∙ (λ i. codes "source" ∷ decimal (sym p i) ∷ decimal (sym v i) ∷ decimal (sym n i) ∷ [])) ∙ heading_ok h hw in
         let long : length ls ≡ h.nodes = sym (length-map ls fields_of) ∙ ap length more ∙ length-map s.nodes node_fields ∙ sym n in
-        let sound : All (Sound h.temporaries h.nodes) s.nodes = subst (λ x. All (Sound x h.nodes) s.nodes) (sym v) (subst (λ x. All (Sound s.temporaries x) s.nodes) (sym n) w.sound) in
+        let sound : AllByRecursion (Sound h.temporaries h.nodes) s.nodes = subst (λ x. AllByRecursion (Sound x h.nodes) s.nodes) (sym v) (subst (λ x. AllByRecursion (Sound s.temporaries x) s.nodes) (sym n) w.sound) in
         ap (counted ls) head ∙ cond-true _ _ _ (eq-eqb (length ls) h.nodes long) ∙ ap (sourced h) (nodes_written h (few h hw) 2 ls s.nodes more sound)
         ∙ (λ i. Ok (record { parameters = p i; temporaries = v i; nodes = s.nodes }))
 

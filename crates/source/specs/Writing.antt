@@ -1,6 +1,6 @@
 -- How a source is written, and which sources a text can hold.
 use Rattle.std.specs.Prelude.{◌≡◌, ℕ, ◌≤◌, List, [], ◌∷◌, map, length, Ok, codes, decimal}
-use Rattle.std.specs.List.{AllByRecursion as All}
+use Rattle.std.specs.List.{AllByRecursion}
 use Rattle.text.specs.Parts.{written}
 use Rattle.source.specs.declared.node.Node.{Node}
 use Rattle.source.specs.declared.node.Node.TheVariants.{Const, Mov, Binary, Call, Branch, Return}
@@ -33,7 +33,7 @@ pub record WellFormed (s : Source) : Type 0 where
   pub temporaries_few : s.temporaries ≤ 48
   pub nodes_some : 1 ≤ length s.nodes
   pub nodes_few : length s.nodes ≤ 256
-  pub sound : All (Sound s.temporaries (length s.nodes)) s.nodes
+  pub sound : AllByRecursion (Sound s.temporaries (length s.nodes)) s.nodes
 
 -- the text is this source written out
 abbrev pub IsTextOf : List ℕ → Source → Type 0
