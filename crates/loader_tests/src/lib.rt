@@ -149,7 +149,7 @@ mod tests {
         assert_eq!(rt; heading.parameters, 2);
         assert_eq!(rt; heading.nodes, 5);
         assert_eq!(rt; loader.nodes().len(), 5);
-        assert!(rt; loader.live() == [0b11, 0b111, 0b1011, 0b1010, 0b1000]);
+        assert!(rt; loader.live() == [0b11, 0b111, 0b1011, 0b1010, 0b1000].as_slice());
         Ok(())
     }
 
