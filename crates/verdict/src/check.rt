@@ -24,8 +24,8 @@ fn answer(refusal: Option<Refusal>, count: u16) -> Result<u16, Refusal>
     }
 }
 
-// Whether the allocation keeps every value where the source expects it: how many moves it has, or the first question
-// that says no. Work memory is left with the sets before all nodes, once each main line matches its node.
+// Whether the allocation keeps every value where the source expects it: how many moves the tables hold, or the first
+// question that says no. Work memory is left with the sets before all nodes, once each main line matches its node.
 pub fn check(
     memory: &mut [u64],
     heading: Heading,
@@ -61,7 +61,7 @@ pub fn check(
     answer(refusal, tables.place())
 }
 
-// The same, with the count of the allocation's moves: tables may hold more of them than belong to it.
+// The same, but it answers how many moves the allocation has: tables may hold others beside them.
 pub fn check_counted(
     memory: &mut [u64],
     heading: Heading,

@@ -41,36 +41,36 @@ fn find_outside(set: &[u64], allowed: &[u64]) -> Option<Equation>
 }
 
 // 33: the result elsewhere than at `m`.
-fn find_elsewhere(set: &[u64], res: Option<u8>, m: u8) -> Option<Equation>
+fn find_elsewhere(set: &[u64], assigned: Option<u8>, m: u8) -> Option<Equation>
     requires len { length set.now ≡ 64 }
-    requires res { IfSome res (λ d. d < 64) }
+    requires assigned { IfSome assigned (λ d. d < 64) }
     requires at { m < 64 }
-    ensures { Finds (held set.now) (elsewhere res m) result }
+    ensures { Finds (held set.now) (elsewhere assigned m) result }
 {
-    let mut allowed = [without(below(64), mask_of(res)); 64];
+    let mut allowed = [without(below(64), mask_of(assigned)); 64];
     allowed[m as usize] = below(64);
     find_outside(set, &allowed)
 }
 
 // 34: another temporary than the result at `m`.
-fn find_overwritten(set: &[u64], res: Option<u8>, m: u8) -> Option<Equation>
+fn find_overwritten(set: &[u64], assigned: Option<u8>, m: u8) -> Option<Equation>
     requires len { length set.now ≡ 64 }
-    requires res { IfSome res (λ d. d < 64) }
+    requires assigned { IfSome assigned (λ d. d < 64) }
     requires at { m < 64 }
-    ensures { Finds (held set.now) (overwritten res m) result }
+    ensures { Finds (held set.now) (overwritten assigned m) result }
 {
     let mut allowed = [below(64); 64];
-    allowed[m as usize] = mask_of(res);
+    allowed[m as usize] = mask_of(assigned);
     find_outside(set, &allowed)
 }
 
 // 35: the result anywhere.
-fn find_never_set(set: &[u64], res: Option<u8>) -> Option<Equation>
+fn find_never_set(set: &[u64], assigned: Option<u8>) -> Option<Equation>
     requires len { length set.now ≡ 64 }
-    requires res { IfSome res (λ d. d < 64) }
-    ensures { Finds (held set.now) (never_set res) result }
+    requires assigned { IfSome assigned (λ d. d < 64) }
+    ensures { Finds (held set.now) (never_set assigned) result }
 {
-    let allowed = [without(below(64), mask_of(res)); 64];
+    let allowed = [without(below(64), mask_of(assigned)); 64];
     find_outside(set, &allowed)
 }
 
@@ -88,20 +88,20 @@ fn find_foreign(set: &[u64], arrival: u8, parameters: u8) -> Option<Equation>
 }
 
 // The questions of a node whose main line has the result location `m`.
-fn ask_result(set: &[u64], n: usize, res: Option<u8>, m: u8) -> Option<Refusal>
+fn ask_result(set: &[u64], n: usize, assigned: Option<u8>, m: u8) -> Option<Refusal>
     requires len { length set.now ≡ 64 }
-    requires res { IfSome res (λ d. d < 64) }
+    requires assigned { IfSome assigned (λ d. d < 64) }
     requires at { m < 64 }
-    ensures { Answered (questions_at n res m) (held set.now) result }
+    ensures { Answered (questions_at n assigned m) (held set.now) result }
 {
-    if let Some(e) = find_elsewhere(set, res, m) {
+    if let Some(e) = find_elsewhere(set, assigned, m) {
         return Some(Refusal::Elsewhere {
             node: n,
             temporary: e.temporary,
             location: e.location,
         });
     }
-    if let Some(e) = find_overwritten(set, res, m) {
+    if let Some(e) = find_overwritten(set, assigned, m) {
         return Some(Refusal::Overwritten {
             node: n,
             temporary: e.temporary,

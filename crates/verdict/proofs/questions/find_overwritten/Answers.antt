@@ -4,5 +4,5 @@ use Rattle.verdict.proofs.questions.find_overwritten.Goals as goal
 
 pub returns : goal.returns
 returns c =
-    finds_by c.args.set.now _ (overwritten c.args.res c.args.m) c.find_outside.result c.requires.len (λ k. (c.type_inv.set k).fits)
-    (overwritten_allowed c.args.res c.mask_of.result c.below-allowed.result c.mask_of.ensures c.below-allowed.ensures c.args.m c.requires.at) c.find_outside.ensures
+    finds_by c.args.set.now _ (overwritten c.args.assigned c.args.m) c.find_outside.result c.requires.len (λ k. (c.type_inv.set k).fits)
+    (overwritten_allowed c.args.assigned c.mask_of.result c.below-allowed.result c.mask_of.ensures c.below-allowed.ensures c.args.m c.requires.at) c.find_outside.ensures

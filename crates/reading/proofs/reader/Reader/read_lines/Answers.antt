@@ -3,7 +3,7 @@ use Rattle.std.proofs.lemmas.Result.{MatchResult-weaker}
 use Rattle.reading.specs.States.{state}
 use Rattle.reading.proofs.Runs.{run_more, run_stop, run_ends}
 use Rattle.reading.proofs.ReadLaws.{Sound, fresh_sound, line_sound}
-use Rattle.reading.proofs.Counted.{told}
+use Rattle.reading.proofs.Counted.{counted}
 use Rattle.reading.proofs.reader.Reader.read_lines.Goals as goal
 
 pub returns-in-Err : goal.returns-in-Err
@@ -27,5 +27,5 @@ returns c =
       lines = MatchResult-weaker c.finish.result c.finish.ensures.end (λ x h. t ∙ h) (λ e h. t ∙ h);
       moves = λ h is few.
           let first : Sound c.args.nodes (state c.args.self.now) = subst (Sound c.args.nodes) (sym is) (fresh_sound c.args.nodes h few) in
-          told c.args.nodes c.loop-at.number (state c.loop-at.self) c.finish.new.self c.finish.result (c.loop-at.invariant.3 first) c.finish.ensures.moves c.finish.ensures.end;
+          counted c.args.nodes c.loop-at.number (state c.loop-at.self) c.finish.new.self c.finish.result (c.loop-at.invariant.3 first) c.finish.ensures.moves c.finish.ensures.end;
     }
