@@ -1,4 +1,7 @@
 // The lines of an allocation. A location is a number: the registers come first, then the slots.
+ghost use Rattle.std.specs.Prelude.{◌≡◌};
+ghost use Rattle.std.specs.List.{slice_get};
+
 use source::node::{Condition, Operation};
 
 // What stands in location `from` is copied to location `to`.
@@ -36,6 +39,47 @@ pub enum Main {
     Return {
         operand: u8,
     },
+}
+
+impl Main {
+    ghost use Rattle.allocation.specs.Allocations.{target, origins};
+
+    // The register that the main line sets, if any.
+    pub fn target(self) -> Option<u8>
+        ensures { result ≡ target self }
+    {
+        match self {
+            Main::Const { target, .. } => Some(target),
+            Main::Binary { target, .. } => Some(target),
+            Main::Call { target, .. } => Some(target),
+            Main::Skip | Main::Branch { .. } | Main::Return { .. } => None,
+        }
+    }
+
+    // The first register that it reads, if any.
+    pub fn first_origin(self) -> Option<u8>
+        ensures { result ≡ slice_get (origins self) 0 }
+    {
+        match self {
+            Main::Binary { first, .. } => Some(first),
+            Main::Call { first, .. } => Some(first),
+            Main::Branch { first, .. } => Some(first),
+            Main::Return { operand } => Some(operand),
+            Main::Skip | Main::Const { .. } => None,
+        }
+    }
+
+    // The second one.
+    pub fn second_origin(self) -> Option<u8>
+        ensures { result ≡ slice_get (origins self) 1 }
+    {
+        match self {
+            Main::Binary { second, .. } => Some(second),
+            Main::Call { second, .. } => Some(second),
+            Main::Branch { second, .. } => Some(second),
+            Main::Skip | Main::Const { .. } | Main::Return { .. } => None,
+        }
+    }
 }
 
 // A node's main line, and where its moves stand in the table of all moves:

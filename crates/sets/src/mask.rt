@@ -1,6 +1,6 @@
 // A 64-bit word as a set of the numbers below 64: the number v is in it where bit v is set.
-ghost use Rattle.std.specs.Prelude.{◌≡◌, ℕ, ◌%◌, ◌<◌, max, false, not, ◌&&◌, ◌||◌, length, MatchOption, ◌==◌, nat_lt, slice_index};
-ghost use Rattle.sets.specs.Masks.{bit, count, First, greatest};
+ghost use Rattle.std.specs.Prelude.{◌≡◌, ℕ, ◌%◌, ◌<◌, max, false, not, ◌&&◌, ◌||◌, length, IfSome, MatchOption, ◌==◌, nat_lt, slice_index};
+ghost use Rattle.sets.specs.Masks.{bit, count, First, greatest, names};
 
 // The set with nothing in it.
 pub fn empty() -> u64
@@ -14,6 +14,17 @@ pub fn single(v: u8) -> u64
     ensures { (w : ℕ) → bit result w ≡ (w == v % 64) }
 {
     1u64 << (v & 63)
+}
+
+// The set of one number, or of none.
+pub fn mask_of(number: Option<u8>) -> u64
+    requires { IfSome number (λ v. v < 64) }
+    ensures { (v : ℕ) → bit result v ≡ names number v }
+{
+    match number {
+        Some(v) => single(v),
+        None => empty(),
+    }
 }
 
 // The numbers below n: all 64 of them where n is 64 or more.
@@ -35,6 +46,21 @@ pub fn without(a: u64, b: u64) -> u64
     ensures { (v : ℕ) → bit result v ≡ (bit a v && not (bit b v)) }
 {
     a & !b
+}
+
+// What is in a and in b.
+pub fn intersection(a: u64, b: u64) -> u64
+    ensures { (v : ℕ) → bit result v ≡ (bit a v && bit b v) }
+{
+    a & b
+}
+
+// Whether v, which is below 64, is in the set.
+pub fn has(m: u64, v: u8) -> bool
+    requires { v < 64 }
+    ensures { result ≡ bit m v }
+{
+    (m >> v) & 1 == 1
 }
 
 // The lowest number in the set, if any.
