@@ -1,5 +1,7 @@
 -- Liveness: the temporaries whose value may still be read, for each node.
-use Rattle.std.specs.Prelude.{◌≡◌, ℕ, ◌<◌, Bool, true, not, ◌&&◌, ◌||◌, List, length, nat_eq, nat_le, slice_index}
+use Rattle.std.specs.Prelude.{◌≡◌, ℕ, ◌<◌, Bool, true, not, ◌&&◌, ◌||◌, List, length, Result, MatchResult, nat_eq, nat_le, slice_index}
+use Rattle.refusal.specs.declared.Refusal.{Refusal}
+use Rattle.refusal.specs.declared.Refusal.TheVariants.{Unset as UnsetTemporary}
 use Rattle.sets.specs.Masks.{bit, count, greatest, First, any, names}
 use Rattle.sets.specs.Least.{Least}
 use Rattle.source.specs.Nodes.{result_of, operands, successors, node_at, AllSound}
@@ -48,6 +50,11 @@ pub record Ready (nodes : List Node) (parameters temporaries : ℕ) (words : Lis
 pub record Unset (nodes : List Node) (parameters : ℕ) (words : List ℕ) (t : ℕ) : Type 0 where
   pub live : Liveness nodes (live_sets words)
   pub first : First (λ v. nat_le parameters v && live_sets words 0 v) t
+
+-- the greatest number of temporaries live into one node, or the refusal that names the lowest one unset
+abbrev pub Surveyed : List Node → ℕ → ℕ → List ℕ → Result ℕ Refusal → Type 0
+Surveyed nodes parameters temporaries words r =
+    MatchResult r (Ready nodes parameters temporaries words) (λ e. (t : ℕ) × (e ≡ UnsetTemporary t) × Unset nodes parameters words t)
 
 -- nodes in range under the heading h, of which the words hold the liveness
 pub record Loaded (h : Heading) (nodes : List Node) (words : List ℕ) : Type 0 where

@@ -1,12 +1,13 @@
 -- What a load answers.
-use Rattle.std.specs.Prelude.{◌≡◌, ℕ, ◌<◌, Bool, true, ◌&&◌, ◌⊎◌, List, length, Ok, Err, vec_items, Option, nat_le}
+use Rattle.std.specs.Prelude.{◌≡◌, ℕ, ◌<◌, ◌≤◌, Bool, true, ◌&&◌, ◌⊎◌, List, length, Some, Ok, Err, vec_items, Option, nat_le}
 use Rattle.std.specs.Option.{option_map}
 use Rattle.sets.specs.Masks.{First}
 use Rattle.refusal.specs.declared.Refusal.{Refusal}
 use Rattle.refusal.specs.declared.Refusal.TheVariants.{Unset}
 use Rattle.source.specs.Reading.{Source, read_source}
-use Rattle.source.specs.Tables.{source_in}
+use Rattle.source.specs.Tables.{nodes_in, source_in}
 use Rattle.loader.specs.Live.{Liveness, live_sets, pressure}
+use Rattle.loader.specs.declared.held.LoadedSource.{LoadedSource}
 use Rattle.loader.specs.declared.holder.Loader.{Loader}
 
 -- the source that is held, if any
@@ -16,6 +17,17 @@ loaded_source l = option_map (λ h. source_in h l.tables.nodes) l.loaded
 -- the masks of the nodes, a word for each
 abbrev pub live_words : Loader → List ℕ
 live_words l = vec_items l.tables.live
+
+-- s shows what the loader l has loaded
+pub record Shows (l : Loader) (s : LoadedSource) : Type 0 where
+  pub heading : l.loaded ≡ Some s.heading
+  pub table : s.table.now ≡ l.tables.nodes
+  pub words : s.live.now ≡ live_words l
+  pub live : Liveness (nodes_in s.table.now) (live_sets s.live.now)
+  pub entry : (v : ℕ) → live_sets s.live.now 0 v ≡ true → v < s.heading.parameters
+  pub long : length (nodes_in s.table.now) ≡ s.heading.nodes
+  pub few_nodes : s.heading.nodes ≤ 256
+  pub few_parameters : s.heading.parameters ≤ 8
 
 -- a load is granted: the text reads as the source s, every temporary live into its first node is a parameter,
 -- and it answers the temporaries, the nodes and the greatest number of temporaries live into one node

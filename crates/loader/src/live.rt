@@ -3,9 +3,10 @@ ghost use Rattle.std.specs.Prelude.{◌≡◌, ℕ, ◌<◌, ◌≤◌, true, fa
 ghost use Rattle.sets.specs.Masks.{bit, Below, First};
 ghost use Rattle.sets.specs.Least.{Growing, Solution, room};
 ghost use Rattle.source.specs.Nodes.{result_of, operands, successors, AllSound, Sound};
-ghost use Rattle.loader.specs.Live.{out_of, reads, is_result, into, live_step, live_sets, Liveness, Ready, Unset};
+ghost use Rattle.loader.specs.Live.{out_of, reads, is_result, into, live_step, live_sets, Liveness, Surveyed};
 
-use sets::mask::{below, empty, greatest_size, lowest, single, union, without};
+use refusal::Refusal;
+use sets::mask::{below, empty, greatest_size, lowest, mask_of, union, without};
 use source::node::Node;
 
 // The temporaries that the node reads.
@@ -13,29 +14,10 @@ fn operand_set(node: Node) -> u64
     requires { Below 64 (operands node) }
     ensures { (v : ℕ) → bit result v ≡ reads node v }
 {
-    match node {
-        Node::Const { .. } => empty(),
-        Node::Mov { origin, .. } => single(origin),
-        Node::Binary { first, second, .. } => union(single(first), single(second)),
-        Node::Call { first, second, .. } => union(single(first), single(second)),
-        Node::Branch { first, second, .. } => union(single(first), single(second)),
-        Node::Return { operand } => single(operand),
-    }
-}
-
-// The temporary that the node sets, if any.
-fn result_set(node: Node) -> u64
-    requires { IfSome (result_of node) (λ d. d < 64) }
-    ensures { (v : ℕ) → bit result v ≡ is_result node v }
-{
-    match node {
-        Node::Const { result, .. } => single(result),
-        Node::Mov { result, .. } => single(result),
-        Node::Binary { result, .. } => single(result),
-        Node::Call { result, .. } => single(result),
-        Node::Branch { .. } => empty(),
-        Node::Return { .. } => empty(),
-    }
+    union(
+        mask_of(node.first_operand()),
+        mask_of(node.second_operand()),
+    )
 }
 
 // The temporaries live out of the node.
@@ -58,7 +40,7 @@ fn live_in(node: Node, live: &[u64]) -> u64
     requires { Sound 64 (length live.now) node }
     ensures { (v : ℕ) → bit result v ≡ into (live_sets live.now) node v }
 {
-    let kept = without(live_out(node, live), result_set(node));
+    let kept = without(live_out(node, live), mask_of(node.assigned()));
     union(operand_set(node), kept)
 }
 
@@ -72,6 +54,7 @@ fn pass(nodes: &[Node], live: &mut [u64]) -> bool
     ensures done { result ≡ false → Solution (length nodes.now) (live_step nodes.now) (live_sets live.new) }
 {
     let mut changed = false;
+    // by number: the word of node n is written while those of all nodes are read
     for n in (0..nodes.len()).rev() {
         let new = live_in(nodes[n], live);
         if new != live[n] {
@@ -105,16 +88,16 @@ pub(crate) fn survey(
     parameters: u8,
     temporaries: u8,
     live: &mut [u64],
-) -> Result<u32, u8>
+) -> Result<u32, Refusal>
     requires sound { AllSound temporaries nodes.now }
     requires few { temporaries ≤ 48 }
     requires some { 0 < length nodes.now }
     requires len { length live.old ≡ length nodes.now }
-    ensures { MatchResult result (Ready nodes.now parameters temporaries live.new) (Unset nodes.now parameters live.new) }
+    ensures { Surveyed nodes.now parameters temporaries live.new result }
 {
     liveness(nodes, live);
     match unset(live[0], parameters) {
-        Some(t) => Err(t as u8),
+        Some(t) => Err(Refusal::Unset { temporary: t as u8 }),
         None => Ok(greatest_size(live)),
     }
 }

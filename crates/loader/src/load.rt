@@ -1,10 +1,9 @@
 // The load call.
 ghost use Rattle.std.specs.Prelude.{◌≡◌, ℕ, ◌<◌, ◌≤◌, List, length, IfOk, Some, None, MatchResult};
-ghost use Rattle.refusal.specs.declared.Refusal.TheVariants.{Unset as UnsetTemporary};
 ghost use Rattle.source.specs.Nodes.{AllSound};
 ghost use Rattle.source.specs.Reading.{Source};
 ghost use Rattle.source.specs.Tables.{nodes_in};
-ghost use Rattle.loader.specs.Live.{Ready, Unset};
+ghost use Rattle.loader.specs.Live.{Surveyed};
 ghost use Rattle.loader.specs.Load.{loaded_source, live_words, Granted, Refused, OneAnswer};
 
 use crate::holder::{Loader, Tables};
@@ -28,20 +27,17 @@ impl Tables {
         requires few { h.temporaries ≤ 48 }
         requires some { 0 < length (nodes_in self.old.nodes) }
         requires room { length (nodes_in self.old.nodes) ≤ 256 }
-        ensures live { MatchResult result (Ready (nodes_in self.old.nodes) h.parameters h.temporaries self.new.live.items) (λ e. ((t : ℕ) × (e ≡ UnsetTemporary t) × Unset (nodes_in self.old.nodes) h.parameters self.new.live.items t)) }
+        ensures live { Surveyed (nodes_in self.old.nodes) h.parameters h.temporaries self.new.live.items result }
         ensures same { self.new.nodes ≡ self.old.nodes }
         ensures words { length self.new.live.items ≡ length (nodes_in self.old.nodes) }
     {
         let _ = self.live.resize(self.nodes.nodes().len(), 0);
-        match survey(
+        survey(
             self.nodes.nodes(),
             h.parameters,
             h.temporaries,
             self.live.as_mut_slice(),
-        ) {
-            Ok(most) => Ok(most),
-            Err(temporary) => Err(Refusal::Unset { temporary }),
-        }
+        )
     }
 }
 
@@ -69,14 +65,8 @@ impl Loader {
     pub fn load(&mut self, text: &[u8]) -> Result<(u8, u16, u32), Refusal>
         ensures answer { MatchResult result (λ counts. ((s : Source) × Granted text.now s (live_words self.new) counts × (loaded_source self.new ≡ Some s))) (λ e. Refused text.now e × (loaded_source self.new ≡ loaded_source self.old)) }
     {
-        let h = match self.spare.nodes.read(text) {
-            Ok(h) => h,
-            Err(refusal) => return Err(refusal),
-        };
-        let most = match self.spare.find_live(h) {
-            Ok(most) => most,
-            Err(refusal) => return Err(refusal),
-        };
+        let h = self.spare.nodes.read(text)?;
+        let most = self.spare.find_live(h)?;
         swap(&mut self.tables, &mut self.spare);
         self.loaded = Some(h);
         Ok(counts(h, most))

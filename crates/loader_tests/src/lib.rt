@@ -135,7 +135,7 @@ mod tests {
     #[test]
     fn refusal_keeps_what_is_held(rt: HostRuntime) -> Result<(), Fail> {
         let mut loader = Loader::new(rt.alloc())?;
-        assert!(rt; loader.heading().is_none());
+        assert!(rt; loader.source().is_none());
         assert_eq!(rt; load(&mut loader, WORKED), None);
         assert_eq!(rt;
             load(&mut loader, b"source\t0\t1\t1\nret\t0\n"),
@@ -145,11 +145,11 @@ mod tests {
             load(&mut loader, b"source\t1\t1\t2\nret\t0\nrat\t0\n"),
             refused(14, 3, 0)
         );
-        let heading = loader.heading().ok_or("nothing is held")?;
-        assert_eq!(rt; heading.parameters, 2);
-        assert_eq!(rt; heading.nodes, 5);
-        assert_eq!(rt; loader.nodes().len(), 5);
-        assert!(rt; loader.live() == [0b11, 0b111, 0b1011, 0b1010, 0b1000].as_slice());
+        let source = loader.source().ok_or("nothing is held")?;
+        assert_eq!(rt; source.heading.parameters, 2);
+        assert_eq!(rt; source.heading.nodes, 5);
+        assert_eq!(rt; source.table.nodes().len(), 5);
+        assert!(rt; source.live == [0b11, 0b111, 0b1011, 0b1010, 0b1000].as_slice());
         Ok(())
     }
 

@@ -2,7 +2,7 @@ use Rattle.std.proofs.Common.{◌≡◌, ℕ, ◌<◌, List, length, vec_len, sy
 use Rattle.std.proofs.lemmas.List.{with_items_is}
 use Rattle.source.specs.Nodes.{AllSound}
 use Rattle.source.specs.declared.node.Node.{Node}
-use Rattle.loader.specs.Live.{Ready, Unset}
+use Rattle.loader.specs.Live.{Surveyed}
 use Rattle.loader.proofs.holder.Tables.find_live.Goals as goal
 
 pub survey-requires : goal.survey-requires
@@ -16,22 +16,12 @@ survey-requires c =
       len = c.as_mut_slice.ensures.len ∙ long;
     }
 
-pub returns-in-Ok : goal.returns-in-Ok
-returns-in-Ok c =
+pub returns : goal.returns
+returns c =
     let all = with_items_is c.resize.new.self c.survey.new.live (search rules) in
     let kept : length c.survey.new.live ≡ length c.nodes-2.result.now = search rules in
     record {
-      live = subst₂ (λ (ns : List Node) (ws : List ℕ). Ready ns c.args.h.parameters c.args.h.temporaries ws c.in-Ok.most) c.nodes-2.ensures (sym all) c.in-Ok.ensures;
-      same = refl;
-      words = ap length all ∙ (kept ∙ ap length c.nodes-2.ensures);
-    }
-
-pub returns-in-Err : goal.returns-in-Err
-returns-in-Err c =
-    let all = with_items_is c.resize.new.self c.survey.new.live (search rules) in
-    let kept : length c.survey.new.live ≡ length c.nodes-2.result.now = search rules in
-    record {
-      live = (c.in-Err.temporary, refl, subst₂ (λ (ns : List Node) (ws : List ℕ). Unset ns c.args.h.parameters ws c.in-Err.temporary) c.nodes-2.ensures (sym all) c.in-Err.ensures);
+      live = subst₂ (λ (ns : List Node) (ws : List ℕ). Surveyed ns c.args.h.parameters c.args.h.temporaries ws c.survey.result) c.nodes-2.ensures (sym all) c.survey.ensures;
       same = refl;
       words = ap length all ∙ (kept ∙ ap length c.nodes-2.ensures);
     }
