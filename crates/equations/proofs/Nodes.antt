@@ -1,9 +1,10 @@
 -- Nodes: their operands and edges, and the set after one.
-use Rattle.std.proofs.Common.{◌≡◌, ℕ, ◌<◌, Bool, true, false, cond, ◌||◌, ◌⊎◌, List, [], ◌∷◌, sym, refl, ap, ◌∙◌, subst, inl, inr}
+use Rattle.std.proofs.Common.{◌≡◌, ℕ, ◌<◌, ◌≤◌, Bool, true, false, cond, ◌||◌, ◌⊎◌, List, [], ◌∷◌, length, sym, refl, ap, ◌∙◌, subst, inl, inr, arith}
 use mathlib.Core.Path.{fun_ext}
 use Rattle.std.specs.List.{AllByRecursion}
 use Rattle.sets.specs.Masks.{any, Below}
-use Rattle.source.specs.Nodes.{operands, edges, successor, Sound}
+use Rattle.source.specs.Nodes.{operands, edges, successor, Sound, AllSound, node_at}
+use Rattle.source.proofs.Soundness.{all_sound}
 use Rattle.source.specs.declared.node.Operation.{Operation}
 use Rattle.source.specs.declared.node.Condition.{Condition}
 use Rattle.source.specs.declared.node.Node.{Node}
@@ -19,6 +20,18 @@ operands-below v n (Binary o d a b next) s = (s.1, (s.2, tt))
 operands-below v n (Call d h a b next) s = (s.2, (s.3, tt))
 operands-below v n (Branch c a b taken other) s = (s.0, (s.1, tt))
 operands-below v n (Return a) s = (s, tt)
+
+-- a node stays sound among more temporaries and more nodes
+pub sound_wider : (v w n m : ℕ) → v ≤ w → n ≤ m → (node : Node) → Sound v n node → Sound w m node
+sound_wider v w n m h g (Const d k next) s = (omega (arith, s.0), s.1, omega (arith, s.2))
+sound_wider v w n m h g (Mov d a next) s = (omega (arith, s.0), omega (arith, s.1), omega (arith, s.2))
+sound_wider v w n m h g (Binary o d a b next) s = (omega (arith, s.0), omega (arith, s.1), omega (arith, s.2), omega (arith, s.3))
+sound_wider v w n m h g (Call d f a b next) s = (omega (arith, s.0), s.1, omega (arith, s.2), omega (arith, s.3), omega (arith, s.4))
+sound_wider v w n m h g (Branch c a b taken other) s = (omega (arith, s.0), omega (arith, s.1), omega (arith, s.2), omega (arith, s.3))
+sound_wider v w n m h g (Return a) s = omega arith
+
+pub sound_more : (v m : ℕ) (nodes : List Node) → AllSound v nodes → (i : ℕ) → i < length nodes → length nodes ≤ m → Sound v m (node_at nodes i)
+sound_more v m nodes s i h g = sound_wider v v (length nodes) m (omega arith) g (node_at nodes i) (all_sound v nodes s i h)
 
 -- what holds of every edge to a node below n holds of the edges of a sound node
 pub edges_all : (v n : ℕ) (node : Node) → Sound v n node → (P : Bool → Type 0) → ((b : Bool) → successor node b < n → P b) → AllByRecursion P (edges node)

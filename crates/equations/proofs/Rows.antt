@@ -1,16 +1,21 @@
 -- Sets of equations as rows of words: what a change of words does to the set.
-use Rattle.std.proofs.Common.{◌≡◌, ℕ, ◌+◌, ◌-◌, ◌*◌, ◌^◌, ◌<◌, ◌≤◌, Bool, true, false, cond, not, ◌&&◌, ◌||◌, eqb, ltb, ◌≢◌, ◌⊎◌, List, [], ◌∷◌, length, get_or, take, drop, set, replicate, Some, None, Option, sym, refl, ap, ◌∙◌, subst, ap₂, inl, inr, arith, length-drop, length-set, length-take, get_or-drop, get_or-set_other, get_or-take, get_or-set_same}
+use Rattle.std.proofs.Common.{◌≡◌, ℕ, ◌+◌, ◌-◌, ◌*◌, ◌^◌, ◌<◌, ◌≤◌, Bool, true, false, cond, not, ◌&&◌, ◌||◌, eqb, ltb, ◌≢◌, ◌⊎◌, List, [], ◌∷◌, ◌++◌, length, length-append, get_or, take, drop, set, replicate, Some, None, Option, sym, refl, ap, ◌∙◌, subst, ap₂, inl, inr, arith, length-drop, length-set, length-take, get_or-drop, get_or-set_other, get_or-take, get_or-set_same}
 use mathlib.Core.Path.{fun_ext}
-use Rattle.std.specs.List.{between}
+use Rattle.std.specs.List.{between, slice_get}
+use Rattle.std.proofs.Math.ListN.{get_or-append}
+use Rattle.std.proofs.Math.Seq.{get_or-append_seam}
 use Rattle.std.proofs.lemmas.Bool.{cases_eq, cases_lt, cases_Bool, both_ways, eqb-true, ne_eqb, eq-eqb, lt-ltb, le-ltb}
-use Rattle.std.proofs.lemmas.List.{get_or_past, drop_more}
+use Rattle.std.proofs.lemmas.List.{get_or_past, nil_from_length}
 use Rattle.sets.specs.Masks.{bit, names}
 use Rattle.sets.proofs.Masks.{bit-zero, within_le}
 use Rattle.sets.proofs.Turns.{zeros_at}
 use Rattle.allocation.specs.Ranges.{move_at}
+use Rattle.allocation.specs.Allocations.{origins}
 use Rattle.allocation.specs.declared.line.Move.{Move}
+use Rattle.allocation.specs.declared.line.Main.{Main}
+use Rattle.allocation.specs.declared.line.Main.TheVariants.{Skip, Const, Binary, Call, Branch, Return}
 use Rattle.equations.specs.Equations.{back_move, back_moves, renamed, dropped, used, held, memory_sets}
-use Rattle.equations.specs.Steps.{with, either, is_first, is_second, MovesReach}
+use Rattle.equations.specs.Steps.{with, either, MovesReach}
 
 -- ---- a loop that works on each word in turn: R k old new at the place k
 
@@ -97,10 +102,22 @@ pub moves_none : (E : ℕ × ℕ → Bool) → back_moves [] E ≡ E
 unfolding back_moves
 moves_none E = refl
 
+-- no move is left
+pub moves_left : (ms : List Move) (E : ℕ × ℕ → Bool) → length ms ≡ 0 → back_moves ms E ≡ E
+moves_left ms E h = ap (λ (ns : List Move). back_moves ns E) (nil_from_length ms h) ∙ moves_none E
+
 -- one move more, from the end
-pub moves_more : (ms : List Move) (i : ℕ) (d : Move) (E : ℕ × ℕ → Bool) → i < length ms → back_moves (drop i ms) E ≡ back_move (get_or ms i d) (back_moves (drop (i + 1) ms) E)
+pub moves_push : (ms : List Move) (m : Move) (E : ℕ × ℕ → Bool) → back_moves (ms ++ m ∷ []) E ≡ back_moves ms (back_move m E)
 unfolding back_moves
-moves_more ms i d E h = ap (λ (x : List Move). back_moves x E) (drop_more ms i d h)
+moves_push [] m E = refl
+moves_push (n ∷ ms) m E = ap (back_move n) (moves_push ms m E)
+
+-- the last of moves within reach, and those before it
+pub moves_last : (ms : List Move) (m : Move) → MovesReach (ms ++ m ∷ []) → ((m.to < 64) × (m.from < 64)) × MovesReach ms
+moves_last ms m s = (subst (λ (x : Move). (x.to < 64) × (x.from < 64)) (get_or-append_seam ms m [] _) (s.at (length ms) (omega (arith, length-append ms (m ∷ [])))), record { at = at })
+  where
+    at : (k : ℕ) → k < length ms → ((move_at ms k).to < 64) × ((move_at ms k).from < 64)
+    at k h = subst (λ (x : Move). (x.to < 64) × (x.from < 64)) (get_or-append ms (m ∷ []) _ k h) (s.at k (omega (arith, length-append ms (m ∷ []))))
 
 -- a part of moves within reach
 pub part_reach : (ms : List Move) (i j : ℕ) → j ≤ length ms → MovesReach ms → MovesReach (between i j ms)
@@ -222,7 +239,7 @@ used-none [] E = refl
 used-none (v ∷ vs) E = refl
 
 -- one operand added
-pub used_one : (vs : List ℕ) (a : ℕ) (D : ℕ → Bool) (E E₁ : ℕ × ℕ → Bool) → ((v : ℕ) → D v ≡ is_first vs v) → E₁ ≡ with a D E → E₁ ≡ used vs (a ∷ []) E
+pub used_one : (vs : List ℕ) (a : ℕ) (D : ℕ → Bool) (E E₁ : ℕ × ℕ → Bool) → ((v : ℕ) → D v ≡ names (slice_get vs 0) v) → E₁ ≡ with a D E → E₁ ≡ used vs (a ∷ []) E
 unfolding used with
 used_one [] a D E E₁ d p = p ∙ fun_ext (λ (e : ℕ × ℕ). ap (λ (b : Bool). E e || (eqb e.0 a && b)) (d e.1) ∙ none-added (E e) (eqb e.0 a))
 used_one (v ∷ vs) a D E E₁ d p =
@@ -237,7 +254,7 @@ rotated false false true = refl
 rotated false false false = refl
 
 -- two operands added, one after the other
-pub used_two : (vs : List ℕ) (a b : ℕ) (D G : ℕ → Bool) (E E₁ E₂ : ℕ × ℕ → Bool) → ((v : ℕ) → D v ≡ is_first vs v) → ((v : ℕ) → G v ≡ is_second vs v)
+pub used_two : (vs : List ℕ) (a b : ℕ) (D G : ℕ → Bool) (E E₁ E₂ : ℕ × ℕ → Bool) → ((v : ℕ) → D v ≡ names (slice_get vs 0) v) → ((v : ℕ) → G v ≡ names (slice_get vs 1) v)
     → E₁ ≡ with a D E → E₂ ≡ with b G E₁ → E₂ ≡ used vs (a ∷ b ∷ []) E
 unfolding used with
 used_two [] a b D G E E₁ E₂ d g p q =
@@ -247,6 +264,55 @@ used_two (v ∷ []) a b D G E E₁ E₂ d g p q =
 used_two (v ∷ (w ∷ vs)) a b D G E E₁ E₂ d g p q =
     q ∙ fun_ext (λ (e : ℕ × ℕ). ap₂ (λ (F : ℕ × ℕ → Bool) (y : Bool). F e || (eqb e.0 b && y)) p (g e.1) ∙ ap (λ (y : Bool). (E e || (eqb e.0 a && y)) || (eqb e.0 b && eqb e.1 w)) (d e.1)
     ∙ rotated (E e) (eqb e.0 a && eqb e.1 v) (eqb e.0 b && eqb e.1 w) ∙ ap (λ (F : ℕ × ℕ → Bool). (eqb e.0 a && eqb e.1 v) || ((eqb e.0 b && eqb e.1 w) || F e)) (sym (used-none vs E)))
+
+-- ---- the registers that a main line reads are two, one or none
+
+two_origins : (m : Main) (a b : ℕ) → slice_get (origins m) 0 ≡ Some a → slice_get (origins m) 1 ≡ Some b → origins m ≡ a ∷ b ∷ []
+two_origins Skip a b p q = cc
+two_origins (Const l k) a b p q = cc
+two_origins (Binary o l x y) a b p q = cc
+two_origins (Call l h x y) a b p q = cc
+two_origins (Branch o x y) a b p q = cc
+two_origins (Return x) a b p q = cc
+
+one_origin : (m : Main) (a : ℕ) → slice_get (origins m) 0 ≡ Some a → slice_get (origins m) 1 ≡ None → origins m ≡ a ∷ []
+one_origin Skip a p q = cc
+one_origin (Const l k) a p q = cc
+one_origin (Binary o l x y) a p q = cc
+one_origin (Call l h x y) a p q = cc
+one_origin (Branch o x y) a p q = cc
+one_origin (Return x) a p q = cc
+
+no_origin : (m : Main) → slice_get (origins m) 0 ≡ None → origins m ≡ []
+no_origin Skip p = refl
+no_origin (Const l k) p = refl
+no_origin (Binary o l x y) p = cc
+no_origin (Call l h x y) p = cc
+no_origin (Branch o x y) p = cc
+no_origin (Return x) p = cc
+
+no_second : (m : Main) (b : ℕ) → slice_get (origins m) 0 ≡ None → slice_get (origins m) 1 ≡ Some b → ⊥
+no_second Skip b p q = cc
+no_second (Const l k) b p q = cc
+no_second (Binary o l x y) b p q = cc
+no_second (Call l h x y) b p q = cc
+no_second (Branch o x y) b p q = cc
+no_second (Return x) b p q = cc
+
+module _ (vs : List ℕ) (m : Main) (E : ℕ × ℕ → Bool) where
+  pub operands_two : (a b : ℕ) (D G : ℕ → Bool) (E₁ E₂ : ℕ × ℕ → Bool) → slice_get (origins m) 0 ≡ Some a → slice_get (origins m) 1 ≡ Some b
+      → ((v : ℕ) → D v ≡ names (slice_get vs 0) v) → ((v : ℕ) → G v ≡ names (slice_get vs 1) v) → E₁ ≡ with a D E → E₂ ≡ with b G E₁ → E₂ ≡ used vs (origins m) E
+  operands_two a b D G E₁ E₂ p q d g e f = used_two vs a b D G E E₁ E₂ d g e f ∙ ap (λ (os : List ℕ). used vs os E) (sym (two_origins m a b p q))
+
+  pub operands_one : (a : ℕ) (D : ℕ → Bool) (E₁ : ℕ × ℕ → Bool) → slice_get (origins m) 0 ≡ Some a → slice_get (origins m) 1 ≡ None
+      → ((v : ℕ) → D v ≡ names (slice_get vs 0) v) → E₁ ≡ with a D E → E₁ ≡ used vs (origins m) E
+  operands_one a D E₁ p q d e = used_one vs a D E E₁ d e ∙ ap (λ (os : List ℕ). used vs os E) (sym (one_origin m a p q))
+
+  pub operands_none : slice_get (origins m) 0 ≡ None → E ≡ used vs (origins m) E
+  operands_none p = sym (used-none vs E) ∙ ap (λ (os : List ℕ). used vs os E) (sym (no_origin m p))
+
+  pub operands_second : (b : ℕ) → slice_get (origins m) 0 ≡ None → slice_get (origins m) 1 ≡ Some b → ⊥
+  operands_second b p q = no_second m b p q
 
 -- ---- a node's words, cut out of work memory
 

@@ -1,81 +1,45 @@
 -- The sets of all nodes in work memory: cleared, then written anew, one node after the other.
-use Rattle.std.proofs.Common.{◌≡◌, ℕ, ◌+◌, ◌-◌, ◌*◌, ◌^◌, ◌<◌, ◌≤◌, Bool, true, false, ◌&&◌, ltb, ◌≢◌, ◌⊎◌, List, ◌++◌, length, get_or, take, drop, set, replicate, sym, refl, ap, ◌∙◌, subst, ap₂, inl, inr, arith, get_or-drop, get_or-set_other, get_or-set_same}
-use Rattle.std.proofs.lemmas.Bool.{cases_eq, cases_lt, both_ways, lt-ltb, le-ltb}
-use Rattle.std.proofs.lemmas.List.{get_or_past, length-replicate, length-take-le, get_or_append_left, get_or-append_right}
+use Rattle.std.proofs.Common.{◌≡◌, ℕ, ◌+◌, ◌-◌, ◌*◌, ◌^◌, ◌<◌, ◌≤◌, Bool, true, false, ◌&&◌, ltb, ◌⊎◌, List, ◌++◌, length, get_or, take, drop, replicate, sym, ap, ◌∙◌, subst, ap₂, inl, inr, arith, rules, get_or-drop}
+use Rattle.std.proofs.lemmas.Bool.{cases_lt, lt-ltb, le-ltb}
+use Rattle.std.proofs.lemmas.List.{places, take-append-drop, get_or_past, length-replicate, length-take-le, get_or_append_left, get_or-append_right}
+use borrow.Rule.Slice.PartMut.{put_mid}
 use Rattle.sets.specs.Masks.{bit}
 use Rattle.sets.specs.Least.{Growing, room}
 use Rattle.sets.proofs.Masks.{bit-zero, within_le}
 use Rattle.sets.proofs.Least.{Updated, start}
-use Rattle.sets.proofs.Turns.{Turn, turn_same, turn_set, room_falls, zeros_at}
+use Rattle.sets.proofs.Turns.{Turn, turn_same, turn_set, zeros_at}
 use Rattle.source.specs.declared.node.Node.{Node}
 use Rattle.allocation.specs.Allocations.{line_at}
 use Rattle.allocation.specs.Ranges.{row_at}
 use Rattle.allocation.specs.declared.line.Move.{Move}
 use Rattle.allocation.specs.declared.line.Row.{Row}
 use Rattle.equations.specs.Equations.{held, memory_sets}
-use Rattle.equations.specs.Steps.{Reach, step_in, Stored}
+use Rattle.equations.specs.Steps.{step_in, Stored}
+use Rattle.equations.proofs.Reach.{Reach}
 use Rattle.equations.proofs.Growth.{Sub, step_mono}
 
--- ---- a set written to its words, one after the other
+-- ---- a set written to its words
 
-pub record Storing (words : List ℕ) (at : ℕ) (set words' : List ℕ) (l : ℕ) (changed : Bool) : Type 0 where
-  pub done : (k : ℕ) → k < l → get_or words' (at + k) 0 ≡ get_or set k 0
-  pub left : (k : ℕ) → (at ≤ k → at + l ≤ k) → get_or words' k 0 ≡ get_or words k 0
-  pub less : room words' ≤ room words
-  pub again : changed ≡ true → room words' < room words
-  pub same : changed ≡ false → words' ≡ words
+-- a part written back leaves what was there
+pub put_same : (a k : ℕ) (xs : List ℕ) → put_mid a k xs (take k (drop a xs)) ≡ xs
+put_same a k xs = ap (λ (ys : List ℕ). take a xs ++ ys) (take-append-drop k (drop a xs)) ∙ take-append-drop a xs
 
-pub storing_none : (words : List ℕ) (at : ℕ) (set : List ℕ) → Storing words at set words 0 false
-storing_none words at row = record {
-  done = λ k h. absurd (omega arith);
-  left = λ k h. refl;
-  less = omega arith;
-  again = λ e. absurd (both_ways false refl e);
-  same = λ e. refl;
-}
+-- a part written over
+pub put_stored : (words : List ℕ) (at k : ℕ) (row mid : List ℕ) → k ≡ 64 → at + 64 ≤ length words → length row ≡ 64 → mid ≡ row → Stored words at row (put_mid at k words mid)
+put_stored words at k row mid is fits long e = record { here = λ l h. search (rules, places); others = λ j h. search (rules, places) }
 
-module _ (words : List ℕ) (at : ℕ) (row words' : List ℕ) (l : ℕ) (changed : Bool) (t : Storing words at row words' l changed) where
-  pub storing_same : get_or words' (at + l) 0 ≡ get_or row l 0 → Storing words at row words' (l + 1) changed
-  storing_same e = record {
-    done = λ k h. done k h (cases_eq k l);
-    left = λ k h. t.left k (λ g. omega (arith, h g));
-    less = t.less;
-    again = t.again;
-    same = t.same;
-  }
-    where
-      done : (k : ℕ) → k < l + 1 → (k ≡ l) ⊎ (k ≡ l → ⊥) → get_or words' (at + k) 0 ≡ get_or row k 0
-      done k h (inl q) = ap (λ (x : ℕ). get_or words' (at + x) 0) q ∙ e ∙ ap (λ (x : ℕ). get_or row x 0) (sym q)
-      done k h (inr q) = t.done k (omega arith)
-
-  pub storing_set : at + l < length words' → get_or row l 0 < 2 ^ 64 → get_or words (at + l) 0 ≤ get_or row l 0 → get_or words' (at + l) 0 ≢ get_or row l 0
-      → Storing words at row (set words' (at + l) (get_or row l 0)) (l + 1) true
-  storing_set within fits grows ne =
-      let old : get_or words' (at + l) 0 ≡ get_or words (at + l) 0 = t.left (at + l) (λ g. omega arith) in
-      let fall = room_falls words' (at + l) (get_or row l 0) within (omega arith) (omega arith) in
-      record {
-        done = λ k h. done k h (cases_eq k l);
-        left = λ k h. left k h;
-        less = omega (arith, fall, t.less);
-        again = λ _. omega (arith, fall, t.less);
-        same = λ e. absurd (both_ways true e refl);
-      }
-    where
-      done : (k : ℕ) → k < l + 1 → (k ≡ l) ⊎ (k ≡ l → ⊥) → get_or (set words' (at + l) (get_or row l 0)) (at + k) 0 ≡ get_or row k 0
-      done k h (inl q) =
-          ap (λ (x : ℕ). get_or (set words' (at + l) (get_or row l 0)) (at + x) 0) q ∙ get_or-set_same words' (at + l) (get_or row l 0) 0 within ∙ ap (λ (x : ℕ). get_or row x 0) (sym q)
-      done k h (inr q) = let ne' : at + k ≢ at + l = λ g. q (omega arith) in get_or-set_other words' (at + l) (at + k) (get_or row l 0) 0 ne' ∙ t.done k (omega arith)
-
-      left : (k : ℕ) → (at ≤ k → at + (l + 1) ≤ k) → get_or (set words' (at + l) (get_or row l 0)) k 0 ≡ get_or words k 0
-      left k h =
-          let ne' : k ≢ at + l = λ g. let a : at ≤ k = omega arith in absurd (omega (arith, h a)) in
-          get_or-set_other words' (at + l) k (get_or row l 0) 0 ne' ∙ t.left k (λ g. omega (arith, h g))
-
-pub storing_all : (words : List ℕ) (at : ℕ) (row words' : List ℕ) (l : ℕ) (changed : Bool) → l ≡ length row → Storing words at row words' l changed → Stored words at row words'
-storing_all words at row words' l changed e t = record {
-  here = λ k h. t.done k (omega arith);
-  others = λ k h. t.left k (λ g. omega (arith, h g));
-}
+-- words that grow where the set stands, and stay elsewhere
+pub stored_grows : (words : List ℕ) (at : ℕ) (row words' : List ℕ) → length row ≡ 64 → Stored words at row words' → ((l : ℕ) → l < 64 → get_or words (at + l) 0 ≤ get_or row l 0)
+    → (k : ℕ) → k < length words → get_or words k 0 ≤ get_or words' k 0
+stored_grows words at row words' long s grows k h = go (cases_lt k at) (cases_lt k (at + 64))
+  where
+    go : (k < at) ⊎ (at ≤ k) → (k < at + 64) ⊎ (at + 64 ≤ k) → get_or words k 0 ≤ get_or words' k 0
+    go (inl l) r = omega (arith, s.others k (λ g. omega arith))
+    go (inr l) (inr r) = omega (arith, s.others k (λ g. omega arith))
+    go (inr l) (inl r) =
+        let e : at + (k - at) ≡ k = omega arith in
+        let more : get_or words (at + (k - at)) 0 ≤ get_or words' (at + (k - at)) 0 = omega (arith, grows (k - at) (omega arith), s.here (k - at) (omega arith)) in
+        subst (λ (x : ℕ). get_or words x 0 ≤ get_or words' x 0) e more
 
 -- ---- a visit of the node n
 

@@ -1,14 +1,15 @@
 -- What the steps of a check do to words, and what they rely on: every location and every temporary is below 64,
 -- and every place is in its table.
-use Rattle.std.specs.Prelude.{◌≡◌, ℕ, ◌+◌, ◌<◌, ◌≤◌, Bool, false, ◌&&◌, ◌||◌, List, [], ◌∷◌, length, IfSome, ◌==◌, slice_index}
+use Rattle.std.specs.Prelude.{◌≡◌, ℕ, ◌+◌, ◌<◌, ◌≤◌, Bool, ◌&&◌, ◌||◌, List, length, IfSome, ◌==◌, slice_index}
 use Rattle.sets.specs.Masks.{Below}
-use Rattle.source.specs.Nodes.{AllSound, node_at}
+use Rattle.source.specs.Nodes.{node_at}
 use Rattle.source.specs.declared.node.Node.{Node}
 use Rattle.allocation.specs.Allocations.{target, origins, line_at}
 use Rattle.allocation.specs.Ranges.{row_at, move_at}
 use Rattle.allocation.specs.declared.line.Move.{Move}
 use Rattle.allocation.specs.declared.line.Main.{Main}
 use Rattle.allocation.specs.declared.line.Row.{Row}
+use Rattle.equations.specs.declared.candidate.Candidate.{Candidate}
 use Rattle.equations.specs.Equations.{before}
 
 -- with the equations of the location l with the temporaries in D
@@ -18,15 +19,6 @@ with l D E e = E e || (e.0 == l && D e.1)
 -- the union of two sets
 unfoldable pub either : (ℕ × ℕ → Bool) → (ℕ × ℕ → Bool) → ℕ × ℕ → Bool
 either E G e = E e || G e
-
--- x is the first, or the second, of the list
-abbrev pub is_first : List ℕ → ℕ → Bool
-is_first [] x = false
-is_first (y ∷ ys) x = x == y
-
-abbrev pub is_second : List ℕ → ℕ → Bool
-is_second [] x = false
-is_second (y ∷ ys) x = is_first ys x
 
 -- the moves
 pub record MovesReach (ms : List Move) : Type 0 where
@@ -45,16 +37,12 @@ pub record RowReach (len : ℕ) (row : Row) : Type 0 where
   pub alts : row.alts ≤ row.end
   pub end : row.end ≤ len
 
--- the tables of a source and of its allocation
-pub record Reach (nodes : List Node) (rows : List Row) (moves : List Move) : Type 0 where
-  pub node : AllSound 64 nodes
-  pub long : length rows ≡ length nodes
-  pub row : (n : ℕ) → n < length rows → RowReach (length moves) (row_at rows n)
-  pub move : MovesReach moves
-
 -- the sets before all nodes, by themselves, over tables
 abbrev pub step_in : List Node → List Row → List Move → (ℕ → ℕ × ℕ → Bool) → ℕ → ℕ × ℕ → Bool
 step_in nodes rows moves X n = before X (node_at nodes n) (line_at moves (row_at rows n))
+
+abbrev pub step_of : Candidate → (ℕ → ℕ × ℕ → Bool) → ℕ → ℕ × ℕ → Bool
+step_of c = step_in c.nodes.now c.rows.now c.moves.now
 
 -- from the word `at` on, words' has the words of `set`, and elsewhere what words has
 pub record Stored (words : List ℕ) (at : ℕ) (set words' : List ℕ) : Type 0 where

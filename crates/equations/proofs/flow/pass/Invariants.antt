@@ -4,6 +4,6 @@ use Rattle.equations.proofs.flow.pass.Given as goal
 
 abbrev pub invariant-loop-n : goal.invariant-loop-n
 invariant-loop-n l =
-    (length l.set ≡ 64) × Visited l.nodes l.rows l.moves l.initial.memory l.memory l.n l.changed
-    × ((k : ℕ) → 64 * length l.nodes ≤ k → get_or l.memory k 0 ≡ get_or l.initial.memory k 0)
+    Visited l.candidate.nodes.now l.candidate.rows.now l.candidate.moves.now l.initial.memory l.memory l.n l.changed
+    × ((k : ℕ) → 64 * length l.candidate.nodes.now ≤ k → get_or l.memory k 0 ≡ get_or l.initial.memory k 0)
     × ((k : ℕ) → get_or l.memory k 0 < 2 ^ 64)

@@ -1,31 +1,31 @@
-use Rattle.std.proofs.Common.{◌≡◌, ℕ, Bool, List, sym, subst₂, arith}
-use Rattle.equations.proofs.Visits.{Storing, storing_none, storing_set, storing_same, storing_all}
+use Rattle.std.proofs.Common.{◌≡◌, ℕ, ◌+◌, ◌-◌, not, length, List, take, drop, refl, ap, ◌∙◌, arith, rules}
+use Rattle.std.proofs.lemmas.Slice.{between-put_mid}
+use Rattle.std.proofs.lemmas.Slice.Eq.{slice_eq-Decides}
+use Rattle.std.proofs.lemmas.Bool.{both_ways}
+use Rattle.std.proofs.lemmas.Bool.Decides.{Decides-eqb}
+use borrow.Rule.Slice.PartMut.{put_mid}
+use Rattle.sets.proofs.Turns.{room_less}
+use Rattle.equations.specs.Steps.{Stored}
+use Rattle.equations.proofs.Visits.{put_same, put_stored, stored_grows}
 use Rattle.equations.proofs.flow.store.Goals as goal
-use Rattle.equations.proofs.flow.store.Goals.{then-memory-at, else-memory-at}
 
-pub loop-l-init : goal.loop-l-init
-loop-l-init c = storing_none c.args.memory.now c.args.at c.args.set.now
-
-moved : {words : List ℕ} {at : ℕ} {row ws ws' : List ℕ} {l : ℕ} {b b' : Bool} → ws' ≡ ws → b' ≡ b → Storing words at row ws l b → Storing words at row ws' l b'
-moved {words} {at} {row} {l = l} p q t = subst₂ (λ (x : List ℕ) (y : Bool). Storing words at row x l y) (sym p) (sym q) t
-
-pub loop-l-preserved : goal.loop-l-preserved
-loop-l-preserved c =
-    let words = c.args.memory.now in
+pub returns-clause-again : goal.returns-clause-again
+returns-clause-again c = λ e.
     let at = c.args.at in
-    let row = c.args.set.now in
-    let l = c.loop-l.l in
-    elim c.if-memory-at.branch [
-      | then-memory-at w ↦ moved w.memory-is w.changed-is
-          (storing_set words at row c.loop-l.memory l c.loop-l.changed c.loop-l.invariant (omega arith) (c.type_inv.set l).fits (c.requires.grows l c.loop-l-test.true) w.if-memory-at.true)
-      | else-memory-at w ↦ moved w.memory-is w.changed-is
-          (storing_same words at row c.loop-l.memory l c.loop-l.changed c.loop-l.invariant w.if-memory-at.false)
-    ]
+    let words = c.args.memory.now in
+    let row = c.args.set.now.words in
+    let words' : List ℕ = put_mid at (at + 64 - at) words c.copy_from_slice.new.self in
+    let long : length row ≡ 64 = search rules in
+    let now : c.copy_from_slice.new.self ≡ row = search rules in
+    let stored : Stored words at row words' = put_stored words at (at + 64 - at) row c.copy_from_slice.new.self (omega arith) (omega arith) long now in
+    let all : length words' ≡ length words = search rules in
+    let part : take (at + 64 - at) (drop at words') ≡ row = between-put_mid at (at + 64 - at) words c.copy_from_slice.new.self (at + 64) (omega arith) (omega (arith, ap length now, long)) ∙ now in
+    let ne : (words ≡ words' → ⊥) = λ q.
+    let same : take (at + 64 - at) (drop at words) ≡ row = ap (λ (ws : List ℕ). take (at + 64 - at) (drop at ws)) q ∙ part in
+    both_ways c.ne-changed.result (c.ne-changed.ensures ∙ ap not ((slice_eq-Decides Decides-eqb _ _ _ refl).1 same)) e in
+    room_less words words' all (stored_grows words at row words' long stored c.requires.grows) (λ k. (c.type_inv.memory k).fits) ne
 
-pub returns : goal.returns
-returns c =
-    record {
-      stored = storing_all c.args.memory.now c.args.at c.args.set.now c.loop-l.memory c.loop-l.l c.loop-l.changed (omega arith) c.loop-l.invariant;
-      again = c.loop-l.invariant.again;
-      done = c.loop-l.invariant.same;
-    }
+pub returns-clause-done : goal.returns-clause-done
+returns-clause-done c = λ e.
+    let same : c.copy_from_slice.new.self ≡ take (c.args.at + 64 - c.args.at) (drop c.args.at c.args.memory.now) = search rules in
+    ap (put_mid c.args.at (c.args.at + 64 - c.args.at) c.args.memory.now) same ∙ put_same c.args.at (c.args.at + 64 - c.args.at) c.args.memory.now

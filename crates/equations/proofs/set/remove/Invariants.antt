@@ -1,7 +1,0 @@
-use Rattle.std.proofs.Common.{◌≡◌, ℕ, not, ◌&&◌}
-use Rattle.sets.specs.Masks.{bit}
-use Rattle.equations.proofs.Rows.{Worked}
-use Rattle.equations.proofs.set.remove.Given as goal
-
-abbrev pub invariant-loop-word : goal.invariant-loop-word
-invariant-loop-word l = Worked (λ k old new. (v : ℕ) → bit new v ≡ (bit old v && not (bit l.mask v))) l.initial.set l.set l.word-index
