@@ -20,11 +20,13 @@ impl EquationSet {
         requires main { MainReach main }
         ensures { held self.new.words ≡ used (operands node) (origins main) (held self.old.words) }
     {
+        let first = node.first_operand();
+        let second = node.second_operand();
         if let Some(l) = main.first_origin() {
-            self.add(l, mask_of(node.first_operand()));
+            self.add(l, mask_of(first));
         }
         if let Some(l) = main.second_origin() {
-            self.add(l, mask_of(node.second_operand()));
+            self.add(l, mask_of(second));
         }
     }
 
