@@ -8,7 +8,7 @@ ghost use Rattle.writer.specs.SinkLaws.{counted_none, counted_both, added_nothin
 
 use text::put::{Piece, line_fits, put_line};
 
-// What takes lines one after another. A line that does not fit is refused whole.
+// What takes lines one after another, and refuses one that does not fit.
 pub(crate) trait Sink {
     // how many more bytes fit
     ghost room: { Self → ℕ };
