@@ -1,36 +1,35 @@
-use Rattle.std.proofs.Common.{◌++◌, sym, ap, ◌∙◌, arith}
-use Rattle.std.proofs.lemmas.List.{length-append}
-use Rattle.text.specs.Put.{added}
-use Rattle.text.proofs.Writing.{added_then}
-use Rattle.allocation.specs.Allocations.{line_at}
-use Rattle.writer.proofs.Parts.{ins, main, outs, alts, line_is, line_long}
+use Rattle.writer.proofs.Parts.{line_is}
+use Rattle.writer.proofs.Putting.{puts_then, puts_none, puts_same}
 use Rattle.writer.proofs.put_row.Goals as goal
 
-pub put_moves-at-requires : goal.put_moves-at-requires
-put_moves-at-requires c = omega (arith, line_long c.args.registers (line_at c.args.moves.now c.args.row))
+pub returns-in_err-put_moves : goal.returns-in_err-put_moves
+returns-in_err-put_moves g c =
+    let o = g.met.S.Sink.in_order in
+    rw c.from_residual.ensures
+    (puts_same o (line_is c.args.tables.now _ _ c.heading-registers.ensures c.moves-moves.ensures c.args.row)
+    (puts_none o _ c.in_err-put_moves.ensures))
 
-pub put_item-at-requires : goal.put_item-at-requires
-put_item-at-requires c = omega (arith, line_long c.args.registers (line_at c.args.moves.now c.args.row))
+pub returns-in_err-put_main : goal.returns-in_err-put_main
+returns-in_err-put_main g c =
+    let o = g.met.S.Sink.in_order in
+    rw c.from_residual-in_err-put_main.ensures
+    (puts_same o (line_is c.args.tables.now _ _ c.heading-registers.ensures c.moves-moves.ensures c.args.row)
+    (puts_then o c.in_ok-put_moves.ensures
+    (puts_none o _ c.in_err-put_main.ensures)))
 
-pub put_moves-at-requires-2 : goal.put_moves-at-requires-2
-put_moves-at-requires-2 c = omega (arith, line_long c.args.registers (line_at c.args.moves.now c.args.row))
-
-pub put_moves-requires : goal.put_moves-requires
-put_moves-requires c = omega (arith, line_long c.args.registers (line_at c.args.moves.now c.args.row))
+pub returns-in_err-put_moves-2 : goal.returns-in_err-put_moves-2
+returns-in_err-put_moves-2 g c =
+    let o = g.met.S.Sink.in_order in
+    rw c.from_residual-in_err-put_moves-2.ensures
+    (puts_same o (line_is c.args.tables.now _ _ c.heading-registers.ensures c.moves-moves.ensures c.args.row)
+    (puts_then o c.in_ok-put_moves.ensures
+    (puts_then o c.in_ok-put_main.ensures
+    (puts_none o _ c.in_err-put_moves-2.ensures))))
 
 pub returns : goal.returns
-returns c =
-    let r = c.args.registers in
-    let l = line_at c.args.moves.now c.args.row in
-    let was = c.args.out.now in
-    let long = line_long r l in
-    let two = length-append (ins r l) (main r l) in
-    let three = length-append (ins r l ++ main r l) (outs r l) in
-    let first = added_then c.args.from (ins r l) (main r l) was _ _ c.put_moves-at.result (omega arith) c.put_moves-at.ensures.bytes c.put_moves-at.ensures.end c.put_item-at.ensures.bytes in
-    let second = added_then c.args.from (ins r l ++ main r l) (outs r l) was _ _ c.put_item-at.result (omega arith) first (omega arith) c.put_moves-at-2.ensures.bytes in
-    record {
-      end = omega arith;
-      bytes =
-          added_then c.args.from ((ins r l ++ main r l) ++ outs r l) (alts r l) was _ _ c.put_moves-at-2.result (omega arith) second (omega arith) c.put_moves.ensures.bytes
-          ∙ ap (λ b. added c.args.from b was) (sym (line_is r l));
-    }
+returns g c =
+    let o = g.met.S.Sink.in_order in
+    puts_same o (line_is c.args.tables.now _ _ c.heading-registers.ensures c.moves-moves.ensures c.args.row)
+    (puts_then o c.in_ok-put_moves.ensures
+    (puts_then o c.in_ok-put_main.ensures
+    (puts_then o c.in_ok-put_moves-2.ensures c.put_moves-3.ensures)))

@@ -1,56 +1,44 @@
-use Rattle.std.proofs.Common.{◌≡◌, ◌+◌, ◌≤◌, ◌++◌, length, sym, ap, ◌∙◌, arith}
-use Rattle.std.proofs.lemmas.List.{length-append}
-use Rattle.text.specs.Put.{added}
-use Rattle.text.proofs.Writing.{added_then}
-use Rattle.writer.proofs.Parts.{head, entry, lines, text_is, text_long}
+use Rattle.std.proofs.Common.{Some, None}
+use Rattle.allocation.specs.Allocations.{moves_in}
+use Rattle.writer.proofs.Parts.{text_is, rows_join, no_row}
+use Rattle.writer.proofs.Putting.{puts_then, puts_none, puts_same, rest_then, rest_none, rest_all}
 use Rattle.writer.proofs.put_text.Goals as goal
 
-pub put_heading-at-requires : goal.put_heading-at-requires
-put_heading-at-requires c =
-    let h = c.args.h in
-    let es = c.args.entry.now in
-    let rs = c.args.rows.now in
-    let ms = c.args.moves.now in
-    let long = text_long h es rs ms in
-    let fit : c.args.from + length (head h es rs ms) ≤ length c.args.out.now = omega (arith, c.requires.room) in
-    fit
+pub returns-in_err-put_heading : goal.returns-in_err-put_heading
+returns-in_err-put_heading g c =
+    let o = g.met.S.Sink.in_order in
+    rw c.from_residual.ensures
+    (puts_same o (text_is c.args.tables.now _ _ c.heading-heading.ensures c.moves.ensures _ _ c.count_entry.ensures c.rows-rows.ensures)
+    (puts_none o _ c.in_err-put_heading.ensures))
 
-pub put_moves-at-requires : goal.put_moves-at-requires
-put_moves-at-requires c =
-    let h = c.args.h in
-    let es = c.args.entry.now in
-    let rs = c.args.rows.now in
-    let ms = c.args.moves.now in
-    let long = text_long h es rs ms in
-    let at : c.put_heading-at.result ≡ c.args.from + length (head h es rs ms) = c.put_heading-at.ensures.end in
-    omega (arith, c.requires.room)
+pub returns-in_err-put_moves : goal.returns-in_err-put_moves
+returns-in_err-put_moves g c =
+    let o = g.met.S.Sink.in_order in
+    rw c.from_residual-in_err-put_moves.ensures
+    (puts_same o (text_is c.args.tables.now _ _ c.heading-heading.ensures c.moves.ensures _ _ c.count_entry.ensures c.rows-rows.ensures)
+    (puts_then o c.in_ok-put_heading.ensures
+    (puts_none o _ c.in_err-put_moves.ensures)))
 
-pub put_rows-requires : goal.put_rows-requires
-put_rows-requires c =
-    let h = c.args.h in
-    let es = c.args.entry.now in
-    let rs = c.args.rows.now in
-    let ms = c.args.moves.now in
-    let long = text_long h es rs ms in
-    let at : c.put_heading-at.result ≡ c.args.from + length (head h es rs ms) = c.put_heading-at.ensures.end in
-    record { fits = c.requires.fits; room = omega (arith, c.requires.room) }
+pub returns-in_err-put_row : goal.returns-in_err-put_row
+returns-in_err-put_row g c =
+    let o = g.met.S.Sink.in_order in
+    rw c.from_residual-in_err-put_row.ensures
+    (puts_same o (text_is c.args.tables.now _ _ c.heading-heading.ensures c.moves.ensures _ _ c.count_entry.ensures c.rows-rows.ensures)
+    (puts_then o c.in_ok-put_heading.ensures
+    (puts_then o c.in_ok-put_moves.ensures
+    (c.loop-row.invariant None c.put_row.new.sink
+    (rest_none o (rows_join c.args.tables.now.heading.registers (moves_in c.args.tables.now)) c.rows-rows.result.now c.loop-row.row-index no_row c.loop-row-test.true c.in_err-put_row.ensures)))))
+
+pub loop-row-preserved : goal.loop-row-preserved
+loop-row-preserved g c r t p =
+    c.loop-row.invariant r t
+    (rest_then g.met.S.Sink.in_order (rows_join c.args.tables.now.heading.registers (moves_in c.args.tables.now)) c.rows-rows.result.now c.loop-row.row-index no_row c.loop-row-test.true c.in_ok-put_row.ensures p)
 
 pub returns : goal.returns
-returns c =
-    let h = c.args.h in
-    let es = c.args.entry.now in
-    let rs = c.args.rows.now in
-    let ms = c.args.moves.now in
-    let long = text_long h es rs ms in
-    let was = c.args.out.now in
-    let at : c.put_heading-at.result ≡ c.args.from + length (head h es rs ms) = c.put_heading-at.ensures.end in
-    let next : c.put_moves-at.result ≡ c.put_heading-at.result + length (entry h es rs ms) = c.put_moves-at.ensures.end in
-    let last : c.put_rows.result ≡ c.put_moves-at.result + length (lines h es rs ms) = c.put_rows.ensures.end in
-    let two : length (head h es rs ms ++ entry h es rs ms) ≡ length (head h es rs ms) + length (entry h es rs ms) = length-append (head h es rs ms) (entry h es rs ms) in
-    let first = added_then c.args.from (head h es rs ms) (entry h es rs ms) was _ _ c.put_heading-at.result (omega (arith, c.requires.room)) c.put_heading-at.ensures.bytes at c.put_moves-at.ensures.bytes in
-    record {
-      end = omega (arith, c.requires.room);
-      bytes =
-          added_then c.args.from (head h es rs ms ++ entry h es rs ms) (lines h es rs ms) was _ _ c.put_moves-at.result (omega (arith, c.requires.room)) first (omega arith) c.put_rows.ensures.bytes
-          ∙ ap (λ b. added c.args.from b was) (sym (text_is h es rs ms));
-    }
+returns g c =
+    let o = g.met.S.Sink.in_order in
+    puts_same o (text_is c.args.tables.now _ _ c.heading-heading.ensures c.moves.ensures _ _ c.count_entry.ensures c.rows-rows.ensures)
+    (puts_then o c.in_ok-put_heading.ensures
+    (puts_then o c.in_ok-put_moves.ensures
+    (c.loop-row.invariant (Some tt) c.loop-row.sink
+    (rest_all o (rows_join c.args.tables.now.heading.registers (moves_in c.args.tables.now)) c.rows-rows.result.now c.loop-row.row-index c.loop-row-test.false))))
