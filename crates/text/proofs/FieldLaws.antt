@@ -1,11 +1,12 @@
 -- Reading and writing a field undo each other.
-use Rattle.std.proofs.Common.{◌≡◌, ℕ, ◌^◌, ◌<◌, ◌≤◌, Bool, true, false, cond, ◌&&◌, eqb, ltb, leb, List, [], ◌∷◌, map, length, drop, Some, None, Err, IsSome, decimal, Option, sym, refl, ap, ◌∙◌, arith}
-use Rattle.std.proofs.lemmas.Bool.{cond-true, cond-false, ne_eqb, eqb-true, ltb-true, lt-ltb, and_parts}
+use Rattle.std.proofs.Common.{◌≡◌, ℕ, ◌^◌, ◌<◌, ◌≤◌, Bool, true, false, cond, ◌&&◌, eqb, ltb, leb, List, [], ◌∷◌, map, length, drop, Some, None, Ok, Err, IsSome, decimal, Option, sym, refl, ap, ◌∙◌, arith}
+use Rattle.std.proofs.lemmas.Bool.{cond-true, cond-false, eq-eqb, ne_eqb, eqb-true, ltb-true, lt-ltb, and_parts}
 use Rattle.std.proofs.lemmas.Bool.Decides.{nat_tests}
+use Rattle.std.proofs.lemmas.List.{length-map}
 use Rattle.std.specs.Str.{all_ascii_digits}
 use Rattle.std.proofs.lemmas.Slice.Eq.{bytes_eq-Decides}
 use Rattle.std.specs.Char.{is_ascii_digit}
-use Rattle.std.specs.Option.{option_map, is_some}
+use Rattle.std.specs.Option.{option_map, ok_or, is_some}
 use Rattle.text.specs.declared.fields.Location.{Location}
 use Rattle.text.specs.declared.fields.Location.TheVariants.{Register, Slot}
 use Rattle.text.specs.Number.{number_of}
@@ -194,3 +195,31 @@ module _ {W A : Type 0} (spelling : W → List ℕ) (words : List W) (arity : W 
   pub first_known : (w : W) (fs : List Shape) → first_word spelling words fs ≡ Some w → by_first spelling words arity operands fs ≡ by_word spelling words arity operands (Some w) (drop 1 fs)
   first_known w [] e = grind arith
   first_known w (f ∷ fs) e = ap (λ o. by_word spelling words arity operands o fs) e
+
+  module _ (inverse : Inverse (word_in spelling words) spelling (λ _. Unit {0})) where
+    pub first_written : (w : W) (fs : List Shape) → length fs ≡ arity w → by_first spelling words arity operands (shape_of (spelling w) ∷ fs) ≡ ok_or (operands w fs) fault.Field
+    first_written w fs e = ap (λ o. by_word spelling words arity operands o fs) (inverse.reads w tt) ∙ cond-true _ _ _ (eq-eqb (length fs) (arity w) e)
+
+    -- the word and its operands, where they are read as a
+    pub record Led (fs : List (List ℕ)) (a : A) : Type 0 where
+      pub leader : W
+      pub rest : List (List ℕ)
+      pub is : fs ≡ spelling leader ∷ rest
+      pub long : length rest ≡ arity leader
+      pub read : operands leader (map shape_of rest) ≡ Some a
+
+    pub first_read : (fs : List (List ℕ)) (a : A) → by_first spelling words arity operands (map shape_of fs) ≡ Ok a → Led fs a
+    first_read [] a e = grind arith
+    first_read (f ∷ fs) a e = worded (word_in spelling words (shape_of f)) refl e
+      where
+        ok_some : (o : Option A) → ok_or o fault.Field ≡ Ok a → o ≡ Some a
+        ok_some None k = grind arith
+        ok_some (Some x) k = let p : x ≡ a = cc in ap Some p
+
+        counted : (w : W) (t : Bool) → eqb (length (map shape_of fs)) (arity w) ≡ t → f ≡ spelling w → cond t (ok_or (operands w (map shape_of fs)) fault.Field) (Err fault.Word) ≡ Ok a → Led (f ∷ fs) a
+        counted w true t is k = record { leader = w; rest = fs; is = λ i. is i ∷ fs; long = sym (length-map fs shape_of) ∙ eqb-true _ _ t; read = ok_some _ k }
+        counted w false t is k = grind arith
+
+        worded : (o : Option W) → word_in spelling words (shape_of f) ≡ o → by_word spelling words arity operands o (map shape_of fs) ≡ Ok a → Led (f ∷ fs) a
+        worded None q k = grind arith
+        worded (Some w) q k = counted w (eqb (length (map shape_of fs)) (arity w)) refl (inverse.is f w q).0 k
