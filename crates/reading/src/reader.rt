@@ -23,3 +23,11 @@ pub struct Reader {
     ghost main_fits: { main_line_fits tables.heading.registers main ≡ true },
     ghost row_left: { length (rows_in tables) + held stage ≤ 256 },
 }
+
+// Where a text is read: the number of the line, and how many nodes the text is for.
+#[derive(Clone, Copy)]
+pub(crate) struct At {
+    pub(crate) line: usize,
+    pub(crate) nodes: u16,
+    ghost few: { nodes ≤ 256 },
+}

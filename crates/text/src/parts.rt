@@ -42,6 +42,13 @@ impl<'a> Lines<'a> {
             number: 1,
         })
     }
+
+    // The number of the first line that is left.
+    pub fn number(&self) -> usize
+        ensures { result ≡ self.now.number }
+    {
+        self.number
+    }
 }
 
 impl<'a> Iterator for Lines<'a> {
@@ -62,9 +69,11 @@ impl<'a> Iterator for Lines<'a> {
             number: self.number,
         };
         let rest = rest.unwrap_or(&[]);
-        self.start += self.rest.len() - rest.len();
-        self.number += 1;
-        self.rest = rest;
+        *self = Lines {
+            rest,
+            start: self.start + (self.rest.len() - rest.len()),
+            number: self.number + 1,
+        };
         Some(line)
     }
 }
