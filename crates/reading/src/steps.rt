@@ -46,6 +46,15 @@ fn stage_after(main: Main) -> Stage
     }
 }
 
+// The row of a node of which nothing is read.
+const EMPTY: Row = Row {
+    main: Main::Skip,
+    ins: 0,
+    outs: 0,
+    alts: 0,
+    end: 0,
+};
+
 impl Reader {
     pub fn new(heap: Global) -> Result<Self, AllocError>
         ensures { IfOk result (λ t. allocation_of t.tables ≡ nothing) }
@@ -53,10 +62,7 @@ impl Reader {
         let tables = Tables::new(heap)?;
         Ok(Reader {
             stage: Stage::Start,
-            main: Main::Skip,
-            ins: 0,
-            outs: 0,
-            alts: 0,
+            row: EMPTY,
             tables,
         })
     }
@@ -67,10 +73,7 @@ impl Reader {
         ensures { state self.new ≡ fresh heading }
     {
         self.stage = Stage::Start;
-        self.main = Main::Skip;
-        self.ins = 0;
-        self.outs = 0;
-        self.alts = 0;
+        self.row = EMPTY;
         self.tables.start(heading);
     }
 
@@ -78,14 +81,18 @@ impl Reader {
     fn begin_node(&mut self)
         requires { length (rows_in self.old.tables) ≤ 256 }
         ensures stage { self.new.stage ≡ Before }
-        ensures ins { self.new.ins ≡ length (moves_in self.old.tables) }
+        ensures ins { self.new.row.ins ≡ length (moves_in self.old.tables) }
         ensures tables { self.new.tables ≡ self.old.tables }
     {
         let place = self.tables.place();
         self.stage = Stage::Before;
-        self.ins = place;
-        self.outs = place;
-        self.alts = place;
+        self.row = Row {
+            main: Main::Skip,
+            ins: place,
+            outs: place,
+            alts: place,
+            end: place,
+        };
     }
 
     fn end_entry(&mut self)
@@ -104,19 +111,11 @@ impl Reader {
     {
         let end = self.tables.place();
         match self.stage {
-            Stage::Alternate => Row {
-                main: self.main,
-                ins: self.ins,
-                outs: self.outs,
-                alts: self.alts,
-                end,
-            },
+            Stage::Alternate => Row { end, ..self.row },
             _ => Row {
-                main: self.main,
-                ins: self.ins,
-                outs: self.outs,
                 alts: end,
                 end,
+                ..self.row
             },
         }
     }
@@ -169,7 +168,12 @@ impl Reader {
         ensures state { state self.new ≡ turned (state self.old) }
         ensures heading { self.new.tables.heading ≡ self.old.tables.heading }
     {
-        self.alts = self.tables.place();
+        let place = self.tables.place();
+        self.row = Row {
+            alts: place,
+            end: place,
+            ..self.row
+        };
         self.stage = Stage::Alternate;
     }
 
@@ -206,9 +210,13 @@ impl Reader {
         ensures { state self.new ≡ with_main (state self.old) main }
     {
         let place = self.tables.place();
-        self.outs = place;
-        self.alts = place;
-        self.main = main;
+        self.row = Row {
+            main,
+            ins: self.row.ins,
+            outs: place,
+            alts: place,
+            end: place,
+        };
         self.stage = stage_after(main);
     }
 
@@ -323,10 +331,7 @@ impl Reader {
         ensures taken { self.new.tables ≡ tables.old }
     {
         self.stage = Stage::Start;
-        self.main = Main::Skip;
-        self.ins = 0;
-        self.outs = 0;
-        self.alts = 0;
+        self.row = EMPTY;
         std::mem::swap(&mut self.tables, tables);
     }
 }
