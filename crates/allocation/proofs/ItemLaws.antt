@@ -1,16 +1,15 @@
 -- Reading and writing one line undo each other.
-use Rattle.std.proofs.Common.{◌≡◌, ℕ, ◌+◌, ◌-◌, ◌^◌, ◌<◌, ◌≤◌, Bool, true, false, cond, ◌&&◌, ◌||◌, eqb, ltb, List, [], ◌∷◌, map, length, IfOk, Some, None, Ok, Err, codes, decimal, Option, Result, sym, refl, ap, ◌∙◌, subst, arith}
-use Rattle.std.proofs.lemmas.List.{length-map}
-use Rattle.std.proofs.lemmas.Bool.{cond-true, cond-false, eq-eqb, eqb-true, lt-ltb, ltb-true, ltb-false, le-ltb, and_parts, and_from}
+use Rattle.std.proofs.Common.{◌≡◌, ℕ, ◌+◌, ◌-◌, ◌^◌, ◌<◌, ◌≤◌, Bool, true, false, cond, ◌&&◌, ◌||◌, ltb, List, [], ◌∷◌, map, length, IfOk, Some, None, Ok, Err, codes, decimal, Result, sym, refl, ap, ◌∙◌, subst, arith}
+use Rattle.std.proofs.lemmas.Bool.{cond-true, cond-false, lt-ltb, ltb-true, ltb-false, le-ltb, and_parts, and_from}
 use Rattle.std.specs.Option.{option_map, ok_or}
 use Rattle.text.specs.declared.fields.Location.TheVariants.{Register, Slot}
 use Rattle.text.specs.declared.fields.Fault.{Fault}
 use Rattle.text.specs.declared.fields.Fault.TheVariants as fault
 use Rattle.text.specs.Parts.{fields_of}
 use Rattle.text.specs.Words.{named}
-use Rattle.text.specs.Fields.{Shape, word, number, location, shape_of, number_below, word_in, and_then}
+use Rattle.text.specs.Fields.{Shape, word, number, location, shape_of, number_below, word_in, by_first, and_then}
 use Rattle.text.proofs.TextLaws.{Lacks, AllLack, Plain}
-use Rattle.text.proofs.FieldLaws.{Inverse, shape_register, shape_slot, shape_is_location, decimal_lacks, mapped_some, below_inverse, word_inverse}
+use Rattle.text.proofs.FieldLaws.{Inverse, shape_register, shape_slot, shape_is_location, decimal_lacks, mapped_some, below_inverse, word_inverse, first_written, first_read}
 use Rattle.text.proofs.Saying.{and_then-some}
 use Rattle.source.specs.declared.node.Operation.{Operation}
 use Rattle.source.specs.declared.node.Operation.TheVariants.{Add, Sub, Mul, Min, Max}
@@ -27,7 +26,7 @@ use Rattle.allocation.specs.declared.item.Item.{Item}
 use Rattle.allocation.specs.declared.item.Item.TheVariants as item
 use Rattle.allocation.specs.Words.{edge_name, word_name, words}
 use Rattle.allocation.specs.Ranges.{item_fits}
-use Rattle.allocation.specs.Items.{below, location_in, register_in, moved, arity, move_of, const_of, binary_of, call_of, branch_of, return_of, operands_of, by_word, by_first, item_of}
+use Rattle.allocation.specs.Items.{below, location_in, register_in, moved, arity, move_of, const_of, binary_of, call_of, branch_of, return_of, operands_of, item_of}
 use Rattle.allocation.specs.Rendering.{register_name, location_name, item_fields}
 
 -- the words
@@ -282,25 +281,11 @@ module _ (h : Heading) (few : h.registers + h.slots ≤ 64) (i : Item) where
   operands_are Return (a ∷ []) n k = return_is a k
   operands_are Return (a ∷ b ∷ gs) n k = absurd (omega arith)
 
-  ok_some : (o : Option Item) → ok_or o fault.Field ≡ Ok i → o ≡ Some i
-  ok_some None e = grind arith
-  ok_some (Some x) e = let p : x ≡ i = cc in ap Some p
-
-  fields_read : (fs : List (List ℕ)) → by_first h (map shape_of fs) ≡ Ok i → Says h fs i
-  fields_read [] e = grind arith
-  fields_read (f ∷ gs) e = worded (word_in word_name words (shape_of f)) refl e
-    where
-      counted : (w : Word) (t : Bool) → eqb (length (map shape_of gs)) (arity w) ≡ t → f ≡ word_name w → cond t (ok_or (operands_of h w (map shape_of gs)) fault.Field) (Err fault.Word) ≡ Ok i → Says h (f ∷ gs) i
-      counted w true t is k = subst (λ g. Says h (g ∷ gs) i) (sym is) (operands_are w gs (sym (length-map gs shape_of) ∙ eqb-true _ _ t) (ok_some _ k))
-      counted w false t is k = grind arith
-
-      worded : (o : Option Word) → word_in word_name words (shape_of f) ≡ o → by_word h o (map shape_of gs) ≡ Ok i → Says h (f ∷ gs) i
-      worded None q k = grind arith
-      worded (Some w) q k = counted w (eqb (length (map shape_of gs)) (arity w)) refl (words_inverse.is f w q).0 k
-
   pub item_read : (fs : List (List ℕ)) → item_of h fs ≡ Ok i → Says h fs i
   unfolding item_of
-  item_read fs e = fields_read fs e
+  item_read fs e =
+      let r = first_read word_name words arity (operands_of h) words_inverse fs i e in
+      subst (λ gs. Says h gs i) (sym r.is) (operands_are r.leader r.rest r.long r.read)
 
 pub item_read_fits : (h : Heading) → h.registers + h.slots ≤ 64 → (line : List ℕ) (r : Result Item Fault) → r ≡ item_of h (fields_of line) → IfOk r (λ i. item_fits h i ≡ true)
 item_read_fits h few line (Ok i) e = (item_read h few i (fields_of line) (sym e)).1
@@ -318,8 +303,8 @@ module _ (h : Heading) (few : h.registers + h.slots ≤ 64) where
   num_ok : (b : ℕ) → b ≤ 10 ^ 10 → (n : ℕ) → n < b → number_below b (shape_of (decimal n)) ≡ Some n
   num_ok b small n k = (below_inverse b small).reads n k
 
-  lead : (w : Word) (fs : List Shape) → length fs ≡ arity w → by_first h (shape_of (word_name w) ∷ fs) ≡ ok_or (operands_of h w fs) fault.Field
-  lead w fs e = ap (λ o. by_word h o fs) (words_inverse.reads w tt) ∙ cond-true _ _ _ (eq-eqb (length fs) (arity w) e)
+  lead : (w : Word) (fs : List Shape) → length fs ≡ arity w → by_first word_name words arity (operands_of h) (shape_of (word_name w) ∷ fs) ≡ ok_or (operands_of h w fs) fault.Field
+  lead = first_written word_name words arity (operands_of h) words_inverse
 
   pub item_written : (i : Item) → item_fits h i ≡ true → item_of h (item_fields h.registers i) ≡ Ok i
   unfolding item_of

@@ -12,7 +12,7 @@ tests_push P d (y ∷ xs) x h k zero l = h 0 (omega arith)
 tests_push P d (y ∷ xs) x h k (suc n) l = tests_push P d xs x (λ m j. h (suc m) (omega arith)) k n (omega arith)
 
 module _ (r : ℕ) where
-  row_longer : (len more : ℕ) (row : Row) → len ≤ more → row_fits r len row ≡ true → row_fits r more row ≡ true
+  pub row_longer : (len more : ℕ) (row : Row) → len ≤ more → row_fits r len row ≡ true → row_fits r more row ≡ true
   row_longer len more row l h =
       let a = and_parts (main_line_fits r row.main) _ h in
       let b = and_parts (leb row.ins row.outs) _ a.1 in

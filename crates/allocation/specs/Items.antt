@@ -1,10 +1,9 @@
 -- What one line of an allocation text after its heading says.
-use Rattle.std.specs.Prelude.{ℕ, ◌+◌, ◌^◌, cond, ◌||◌, List, [], ◌∷◌, map, length, Some, None, Err, Option, Result, ◌==◌, nat_lt}
-use Rattle.std.specs.Option.{option_map, ok_or}
-use Rattle.text.specs.Fields.{Shape, word, number, location, shape_of, number_below, word_in, at, and_then}
+use Rattle.std.specs.Prelude.{ℕ, ◌+◌, ◌^◌, cond, ◌||◌, List, map, Some, None, Option, Result, nat_lt}
+use Rattle.std.specs.Option.{option_map}
+use Rattle.text.specs.Fields.{Shape, word, number, location, shape_of, number_below, word_in, by_first, at, and_then}
 use Rattle.text.specs.declared.fields.Location.TheVariants.{Register, Slot}
 use Rattle.text.specs.declared.fields.Fault.{Fault}
-use Rattle.text.specs.declared.fields.Fault.TheVariants as fault
 use Rattle.source.specs.declared.node.Operation.{Operation}
 use Rattle.source.specs.Words.{condition_name, conditions}
 use Rattle.allocation.specs.declared.heading.Heading.{Heading}
@@ -76,15 +75,6 @@ module _ (h : Heading) where
   operands_of Branch fs = branch_of (at fs 0) (at fs 1) (at fs 2)
   operands_of Return fs = return_of (at fs 0)
 
-  -- the word is known, then it has its count of fields, then they are right
-  abbrev pub by_word : Option Word → List Shape → Result Item Fault
-  by_word None fs = Err fault.Word
-  by_word (Some w) fs = cond (length fs == arity w) (ok_or (operands_of w fs) fault.Field) (Err fault.Word)
-
-  abbrev pub by_first : List Shape → Result Item Fault
-  by_first [] = Err fault.Word
-  by_first (f ∷ fs) = by_word (word_in word_name words f) fs
-
   -- what a line with these fields says
   unfoldable pub item_of : List (List ℕ) → Result Item Fault
-  item_of fs = by_first (map shape_of fs)
+  item_of fs = by_first word_name words arity operands_of (map shape_of fs)

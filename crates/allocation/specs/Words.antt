@@ -6,8 +6,6 @@ use Rattle.allocation.specs.declared.words.Edge.{Edge}
 use Rattle.allocation.specs.declared.words.Edge.TheVariants.{Entry, In, Out, Alt}
 use Rattle.allocation.specs.declared.words.Word.{Word}
 use Rattle.allocation.specs.declared.words.Word.TheVariants.{Move, Skip, Const, Binary, Call, Branch, Return}
-use Rattle.allocation.specs.declared.words.Title.{Title}
-use Rattle.allocation.specs.declared.words.Title.TheVariants.{Alloc}
 
 abbrev pub edge_name : Edge → List ℕ
 edge_name Entry = codes "entry"
@@ -26,9 +24,3 @@ word_name Return = codes "ret"
 
 unfoldable pub words : List Word
 words = Move Entry ∷ Move In ∷ Move Out ∷ Move Alt ∷ Skip ∷ Const ∷ Binary Add ∷ Binary Sub ∷ Binary Mul ∷ Binary Min ∷ Binary Max ∷ Call ∷ Branch ∷ Return ∷ []
-
-abbrev pub title_name : Title → List ℕ
-title_name Alloc = codes "alloc"
-
-abbrev pub titles : List Title
-titles = Alloc ∷ []

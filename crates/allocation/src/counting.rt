@@ -10,10 +10,9 @@ impl Tables {
     pub fn count_moves(&self) -> u32
         ensures { result ≡ move_count (allocation_of self.now) }
     {
-        let rows = self.rows.as_slice();
-        let mut count = self.entry as u32;
-        for n in 0..rows.len() {
-            count += (rows[n].end - rows[n].ins) as u32;
+        let mut count = u32::from(self.entry);
+        for row in &self.rows {
+            count += u32::from(row.end - row.ins);
         }
         count
     }

@@ -1,11 +1,11 @@
 // The words of an allocation text.
-ghost use Rattle.allocation.specs.Words.{edge_name, word_name, title_name};
+ghost use Rattle.allocation.specs.Words.{edge_name, word_name};
 
 use source::node::Operation;
 use text::words::Spelled;
 
 // When a move is made: before node 0, before the main line, after it, or after a branch that goes to `no`.
-#[derive(Clone, Copy)]
+#[derive(Clone, Copy, PartialEq, Eq)]
 pub enum Edge {
     Entry,
     In,
@@ -14,7 +14,7 @@ pub enum Edge {
 }
 
 // What the first word of a line says.
-#[derive(Clone, Copy)]
+#[derive(Clone, Copy, PartialEq, Eq)]
 pub enum Word {
     Move(Edge),
     Skip,
@@ -68,21 +68,5 @@ impl Spelled for Word {
             Word::Branch => b"br",
             Word::Return => b"ret",
         }
-    }
-}
-
-// The first word of the heading.
-#[derive(Clone, Copy)]
-pub enum Title {
-    Alloc,
-}
-
-pub const TITLES: [Title; 1] = [Title::Alloc];
-
-impl Spelled for Title {
-    ghost spelling = { title_name };
-
-    fn spell(self) -> &'static [u8] {
-        b"alloc"
     }
 }

@@ -40,12 +40,8 @@ impl Holder {
         ensures text { OnOk result (render (allocation_of self.new.standing) ≡ text.now) }
         ensures kept { OnErr result (self.new.standing ≡ self.old.standing) }
     {
-        match self.spare.read(text, parameters, nodes) {
-            Ok(heading) => {
-                self.spare.exchange(&mut self.standing);
-                Ok(heading)
-            }
-            Err(refusal) => Err(refusal),
-        }
+        let heading = self.spare.read(text, parameters, nodes)?;
+        self.spare.exchange(&mut self.standing);
+        Ok(heading)
     }
 }

@@ -1,6 +1,7 @@
 // How an allocation text is read: the stage reached and the word of a line decide together whether the line may stand.
-ghost use Rattle.std.specs.Prelude.{◌≡◌, ◌+◌, ◌^◌, ◌<◌, ◌≤◌, true, map, length, drop, IfOk, Ok, Err, MatchResult, OnOk};
-ghost use Rattle.text.specs.Parts.{lines_of, fields_of};
+ghost use Rattle.std.specs.Prelude.{◌≡◌, ◌+◌, ◌^◌, ◌<◌, ◌≤◌, true, map, length, IfOk, Ok, Err, MatchResult, OnOk};
+ghost use Rattle.text.specs.Parts.{fields_of};
+ghost use Rattle.text.specs.Lines.{lines_left};
 ghost use Rattle.allocation.specs.declared.heading.Heading.{Heading};
 ghost use Rattle.reading.specs.declared.stage.Stage.TheVariants.{Start, Before, Branch};
 ghost use Rattle.allocation.specs.Ranges.{move_fits, main_line_fits, row_fits, item_fits};
@@ -12,7 +13,7 @@ ghost use Rattle.allocation.specs.Rendering.{render};
 ghost use Rattle.reading.specs.States.{state, line_in};
 ghost use Rattle.allocation.specs.WellFormed.{WellFormed};
 
-use crate::reader::Reader;
+use crate::reader::{At, Reader};
 use crate::stage::Stage;
 use allocation::heading::{Heading, find_heading};
 use allocation::item::{Item, read_item};
@@ -22,7 +23,7 @@ use allocation::words::Edge;
 use refusal::Refusal;
 use std::alloc::{AllocError, Global};
 use text::fields::Fault;
-use text::parts::{is_sized, next_line};
+use text::lines::{Line, Lines};
 
 // A fault of the line with this number.
 fn refuse(line: usize, fault: Fault) -> Refusal
@@ -45,6 +46,15 @@ fn stage_after(main: Main) -> Stage
     }
 }
 
+// The row of a node of which nothing is read.
+const EMPTY: Row = Row {
+    main: Main::Skip,
+    ins: 0,
+    outs: 0,
+    alts: 0,
+    end: 0,
+};
+
 impl Reader {
     pub fn new(heap: Global) -> Result<Self, AllocError>
         ensures { IfOk result (λ t. allocation_of t.tables ≡ nothing) }
@@ -52,10 +62,7 @@ impl Reader {
         let tables = Tables::new(heap)?;
         Ok(Reader {
             stage: Stage::Start,
-            main: Main::Skip,
-            ins: 0,
-            outs: 0,
-            alts: 0,
+            row: EMPTY,
             tables,
         })
     }
@@ -66,10 +73,7 @@ impl Reader {
         ensures { state self.new ≡ fresh heading }
     {
         self.stage = Stage::Start;
-        self.main = Main::Skip;
-        self.ins = 0;
-        self.outs = 0;
-        self.alts = 0;
+        self.row = EMPTY;
         self.tables.start(heading);
     }
 
@@ -77,14 +81,18 @@ impl Reader {
     fn begin_node(&mut self)
         requires { length (rows_in self.old.tables) ≤ 256 }
         ensures stage { self.new.stage ≡ Before }
-        ensures ins { self.new.ins ≡ length (moves_in self.old.tables) }
+        ensures ins { self.new.row.ins ≡ length (moves_in self.old.tables) }
         ensures tables { self.new.tables ≡ self.old.tables }
     {
         let place = self.tables.place();
         self.stage = Stage::Before;
-        self.ins = place;
-        self.outs = place;
-        self.alts = place;
+        self.row = Row {
+            main: Main::Skip,
+            ins: place,
+            outs: place,
+            alts: place,
+            end: place,
+        };
     }
 
     fn end_entry(&mut self)
@@ -103,19 +111,11 @@ impl Reader {
     {
         let end = self.tables.place();
         match self.stage {
-            Stage::Alternate => Row {
-                main: self.main,
-                ins: self.ins,
-                outs: self.outs,
-                alts: self.alts,
-                end,
-            },
+            Stage::Alternate => Row { end, ..self.row },
             _ => Row {
-                main: self.main,
-                ins: self.ins,
-                outs: self.outs,
                 alts: end,
                 end,
+                ..self.row
             },
         }
     }
@@ -149,17 +149,17 @@ impl Reader {
     }
 
     // A line for a node past the last may not stand.
-    fn next_node(&mut self, line: usize, nodes: u16) -> Result<(), Refusal>
-        ensures state { MatchResult result (λ _. next_node nodes line (state self.old) ≡ Ok (state self.new)) (λ e. next_node nodes line (state self.old) ≡ Err e) }
+    fn next_node(&mut self, at: At) -> Result<(), Refusal>
+        ensures state { MatchResult result (λ _. next_node at.nodes at.line (state self.old) ≡ Ok (state self.new)) (λ e. next_node at.nodes at.line (state self.old) ≡ Err e) }
         ensures stage { self.new.stage ≡ Before }
-        ensures room { OnOk result (length (rows_in self.new.tables) < nodes) }
+        ensures room { OnOk result (length (rows_in self.new.tables) < at.nodes) }
         ensures heading { self.new.tables.heading ≡ self.old.tables.heading }
     {
         self.open_node();
-        if self.done() < nodes as usize {
+        if self.done() < usize::from(at.nodes) {
             Ok(())
         } else {
-            Err(Refusal::OutOfOrder { line })
+            Err(Refusal::OutOfOrder { line: at.line })
         }
     }
 
@@ -168,17 +168,22 @@ impl Reader {
         ensures state { state self.new ≡ turned (state self.old) }
         ensures heading { self.new.tables.heading ≡ self.old.tables.heading }
     {
-        self.alts = self.tables.place();
+        let place = self.tables.place();
+        self.row = Row {
+            alts: place,
+            end: place,
+            ..self.row
+        };
         self.stage = Stage::Alternate;
     }
 
     // Whether a move with this word may stand in this line; the stage moves on.
-    fn stand(&mut self, edge: Edge, line: usize, nodes: u16) -> Result<(), Refusal>
-        ensures state { MatchResult result (λ _. stand nodes line edge (state self.old) ≡ Ok (state self.new)) (λ e. stand nodes line edge (state self.old) ≡ Err e) }
+    fn stand(&mut self, edge: Edge, at: At) -> Result<(), Refusal>
+        ensures state { MatchResult result (λ _. stand at.nodes at.line edge (state self.old) ≡ Ok (state self.new)) (λ e. stand at.nodes at.line edge (state self.old) ≡ Err e) }
         ensures heading { self.new.tables.heading ≡ self.old.tables.heading }
     {
         match (self.stage, edge) {
-            (_, Edge::In) => self.next_node(line, nodes),
+            (_, Edge::In) => self.next_node(at),
             (Stage::Start, Edge::Entry) => Ok(()),
             (Stage::Plain | Stage::Branch, Edge::Out) => Ok(()),
             (Stage::Branch, Edge::Alt) => {
@@ -186,7 +191,7 @@ impl Reader {
                 Ok(())
             }
             (Stage::Alternate, Edge::Alt) => Ok(()),
-            _ => Err(Refusal::OutOfOrder { line }),
+            _ => Err(Refusal::OutOfOrder { line: at.line }),
         }
     }
 
@@ -205,97 +210,91 @@ impl Reader {
         ensures { state self.new ≡ with_main (state self.old) main }
     {
         let place = self.tables.place();
-        self.outs = place;
-        self.alts = place;
-        self.main = main;
+        self.row = Row {
+            main,
+            ins: self.row.ins,
+            outs: place,
+            alts: place,
+            end: place,
+        };
         self.stage = stage_after(main);
     }
 
-    fn take_move(&mut self, edge: Edge, m: Move, line: usize, nodes: u16) -> Result<(), Refusal>
+    fn take_move(&mut self, edge: Edge, m: Move, at: At) -> Result<(), Refusal>
         requires { move_fits self.old.tables.heading.registers self.old.tables.heading.slots m ≡ true }
-        ensures { MatchResult result (λ _. take_item nodes line (state self.old) (Item.Move edge m) ≡ Ok (state self.new)) (λ e. take_item nodes line (state self.old) (Item.Move edge m) ≡ Err e) }
+        ensures { MatchResult result (λ _. take_item at.nodes at.line (state self.old) (Item.Move edge m) ≡ Ok (state self.new)) (λ e. take_item at.nodes at.line (state self.old) (Item.Move edge m) ≡ Err e) }
     {
-        self.stand(edge, line, nodes)?;
+        self.stand(edge, at)?;
         if self.tables.place() >= 1024 {
-            return Err(Refusal::TooManyMoves { line });
+            return Err(Refusal::TooManyMoves { line: at.line });
         }
         self.push_move(m);
         Ok(())
     }
 
-    fn take_main(&mut self, main: Main, line: usize, nodes: u16) -> Result<(), Refusal>
-        requires few { nodes ≤ 256 }
-        requires fits { main_line_fits self.old.tables.heading.registers main ≡ true }
-        ensures { MatchResult result (λ _. take_item nodes line (state self.old) (Item.Main main) ≡ Ok (state self.new)) (λ e. take_item nodes line (state self.old) (Item.Main main) ≡ Err e) }
+    fn take_main(&mut self, main: Main, at: At) -> Result<(), Refusal>
+        requires { main_line_fits self.old.tables.heading.registers main ≡ true }
+        ensures { MatchResult result (λ _. take_item at.nodes at.line (state self.old) (Item.Main main) ≡ Ok (state self.new)) (λ e. take_item at.nodes at.line (state self.old) (Item.Main main) ≡ Err e) }
     {
-        self.next_node(line, nodes)?;
+        self.next_node(at)?;
         self.set_main(main);
         Ok(())
     }
 
     // A line that is right in form: it may stand, and is no move too many.
-    fn take_item(&mut self, item: Item, line: usize, nodes: u16) -> Result<(), Refusal>
-        requires few { nodes ≤ 256 }
-        requires fits { item_fits self.old.tables.heading item ≡ true }
-        ensures { MatchResult result (λ _. take_item nodes line (state self.old) item ≡ Ok (state self.new)) (λ e. take_item nodes line (state self.old) item ≡ Err e) }
+    fn take_item(&mut self, item: Item, at: At) -> Result<(), Refusal>
+        requires { item_fits self.old.tables.heading item ≡ true }
+        ensures { MatchResult result (λ _. take_item at.nodes at.line (state self.old) item ≡ Ok (state self.new)) (λ e. take_item at.nodes at.line (state self.old) item ≡ Err e) }
     {
         match item {
-            Item::Move(edge, m) => self.take_move(edge, m, line, nodes),
-            Item::Main(main) => self.take_main(main, line, nodes),
+            Item::Move(edge, m) => self.take_move(edge, m, at),
+            Item::Main(main) => self.take_main(main, at),
         }
     }
 
-    // A line after the heading, which stands at `start` in its text.
-    fn read_one(
-        &mut self,
-        line: &[u8],
-        start: usize,
-        number: usize,
-        nodes: u16,
-    ) -> Result<(), Refusal>
-        requires few { nodes ≤ 256 }
-        requires within { start + length line.now < 2 ^ 32 }
-        ensures { MatchResult result (λ _. one_line nodes number (state self.old) (fields_of line.now) ≡ Ok (state self.new)) (λ e. one_line nodes number (state self.old) (fields_of line.now) ≡ Err e) }
+    // A line after the heading.
+    fn read_one(&mut self, line: &Line, nodes: u16) -> Result<(), Refusal>
+        requires { nodes ≤ 256 }
+        ensures { MatchResult result (λ _. one_line nodes line.now.number (state self.old) (fields_of line.now.bytes.now) ≡ Ok (state self.new)) (λ e. one_line nodes line.now.number (state self.old) (fields_of line.now.bytes.now) ≡ Err e) }
     {
-        match read_item(line, start, self.tables.heading()) {
-            Ok(item) => self.take_item(item, number, nodes),
-            Err(fault) => Err(refuse(number, fault)),
-        }
+        let number = line.number;
+        let item = read_item(line, self.tables.heading()).map_err(|fault| refuse(number, fault))?;
+        self.take_item(
+            item,
+            At {
+                line: number,
+                nodes,
+            },
+        )
     }
 
     // At the end of the text each node has its main line.
-    fn finish(&mut self, line: usize, nodes: u16) -> Result<(), Refusal>
-        ensures end { MatchResult result (λ _. finish nodes line (state self.old) ≡ Ok (allocation_of self.new.tables)) (λ e. finish nodes line (state self.old) ≡ Err e) }
+    fn finish(&mut self, at: At) -> Result<(), Refusal>
+        ensures end { MatchResult result (λ _. finish at.nodes at.line (state self.old) ≡ Ok (allocation_of self.new.tables)) (λ e. finish at.nodes at.line (state self.old) ≡ Err e) }
         ensures moves { length (moves_in self.new.tables) ≡ length (moves_in self.old.tables) }
     {
         self.open_node();
-        if self.done() == nodes as usize {
+        if self.done() == usize::from(at.nodes) {
             Ok(())
         } else {
-            Err(Refusal::MissingNodes { line })
+            Err(Refusal::MissingNodes { line: at.line })
         }
     }
 
-    // The lines of the text from `from` on, the first of which is line 2.
-    fn read_lines(&mut self, text: &[u8], from: usize, nodes: u16) -> Result<(), Refusal>
-        requires few { nodes ≤ 256 }
-        requires short { length text.now ≤ 32768 }
-        requires within { from ≤ length text.now + 1 }
-        ensures lines { MatchResult result (λ _. run nodes (map fields_of (lines_of (drop from text.now))) (state self.old) 2 ≡ Ok (allocation_of self.new.tables)) (λ e. run nodes (map fields_of (lines_of (drop from text.now))) (state self.old) 2 ≡ Err e) }
+    // The lines that are left, and then the end.
+    fn read_lines(&mut self, lines: Lines, nodes: u16) -> Result<(), Refusal>
+        requires { nodes ≤ 256 }
+        ensures lines { MatchResult result (λ _. run nodes (map fields_of (lines_left lines.entry)) (state self.old) lines.entry.number ≡ Ok (allocation_of self.new.tables)) (λ e. run nodes (map fields_of (lines_left lines.entry)) (state self.old) lines.entry.number ≡ Err e) }
         ensures moves { (h : Heading) → state self.old ≡ fresh h → h.registers + h.slots ≤ 64 → OnOk result (length (moves_in self.new.tables) ≡ move_count (allocation_of self.new.tables)) }
     {
-        let mut at = from;
-        let mut number = 2;
-        while at < text.len() {
-            let (line, next) = next_line(text, at);
-            match self.read_one(line, at, number, nodes) {
-                Ok(()) => {}
-                Err(refusal) => return Err(refusal),
-            }
-            at = next;
-            number += 1;
+        let mut lines = lines;
+        while let Some(line) = lines.next() {
+            self.read_one(&line, nodes)?;
         }
-        self.finish(number, nodes)
+        self.finish(At {
+            line: lines.number(),
+            nodes,
+        })
     }
 
     // Reads a whole text, for a source with this many parameters and nodes; a refused text leaves nothing of use in the tables.
@@ -306,18 +305,18 @@ impl Reader {
         ensures text { OnOk result (render (allocation_of self.new.tables) ≡ text.now) }
         ensures moves { OnOk result (length (moves_in self.new.tables) ≡ move_count (allocation_of self.new.tables)) }
     {
-        if !is_sized(text) {
+        let Some(mut lines) = Lines::of(text) else {
             return Err(Refusal::AllocationSize);
-        }
-        let (line, next) = next_line(text, 0);
-        let Some(heading) = find_heading(line, parameters, nodes) else {
+        };
+        let Some(heading) = lines
+            .next()
+            .and_then(|line| find_heading(&line, parameters, nodes))
+        else {
             return Err(Refusal::AllocationHeading);
         };
         self.restart(heading);
-        match self.read_lines(text, next, nodes) {
-            Ok(()) => Ok(self.tables.heading()),
-            Err(refusal) => Err(refusal),
-        }
+        self.read_lines(lines, nodes)?;
+        Ok(self.tables.heading())
     }
 
     pub fn tables(&self) -> &Tables
@@ -332,10 +331,7 @@ impl Reader {
         ensures taken { self.new.tables ≡ tables.old }
     {
         self.stage = Stage::Start;
-        self.main = Main::Skip;
-        self.ins = 0;
-        self.outs = 0;
-        self.alts = 0;
+        self.row = EMPTY;
         std::mem::swap(&mut self.tables, tables);
     }
 }

@@ -4,4 +4,3 @@ pub mod WholeText
 pub mod Wording
 pub mod NodeLaws
 pub mod SourceLaws
-pub mod Copies

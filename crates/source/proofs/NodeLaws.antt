@@ -1,11 +1,9 @@
 -- Reading and writing a node's line undo each other.
-use Rattle.std.proofs.Common.{◌≡◌, ℕ, ◌^◌, ◌<◌, ◌≤◌, Bool, true, false, cond, eqb, List, [], ◌∷◌, map, length, Some, None, Ok, Err, decimal, Option, sym, refl, ap, ◌∙◌, subst, arith}
-use Rattle.std.proofs.lemmas.List.{length-map}
-use Rattle.std.proofs.lemmas.Bool.{cond-true, eq-eqb, eqb-true}
+use Rattle.std.proofs.Common.{◌≡◌, ℕ, ◌^◌, ◌<◌, ◌≤◌, List, [], ◌∷◌, map, length, Some, Ok, decimal, sym, refl, ◌∙◌, subst, arith}
 use Rattle.std.specs.Option.{option_map, ok_or}
-use Rattle.text.specs.Fields.{Shape, shape_of, number_below, word_in, and_then}
+use Rattle.text.specs.Fields.{Shape, shape_of, number_below, word_in, by_first, and_then}
 use Rattle.text.specs.declared.fields.Fault.TheVariants as fault
-use Rattle.text.proofs.FieldLaws.{Inverse, below_inverse, mapped_some}
+use Rattle.text.proofs.FieldLaws.{Inverse, below_inverse, mapped_some, first_written, first_read}
 use Rattle.text.proofs.Saying.{and_then-some}
 use Rattle.source.specs.declared.heading.Heading.{Heading}
 use Rattle.source.specs.declared.node.Operation.{Operation}
@@ -15,7 +13,7 @@ use Rattle.source.specs.declared.words.Opcode.{Opcode}
 use Rattle.source.specs.declared.words.Opcode.TheVariants.{Const, Mov, Binary, Call, Branch, Return}
 use Rattle.source.specs.Nodes.{Sound}
 use Rattle.source.specs.Words.{opcode_name, condition_name, opcodes, conditions}
-use Rattle.source.specs.Reading.{arity, const_of, mov_of, binary_of, call_of, branch_of, return_of, operands_of, by_opcode, by_first}
+use Rattle.source.specs.Reading.{arity, const_of, mov_of, binary_of, call_of, branch_of, return_of, operands_of}
 use Rattle.source.specs.Writing.{node_fields}
 use Rattle.source.proofs.Wording.{opcode_inverse, condition_inverse}
 
@@ -39,13 +37,13 @@ module _ (h : Heading) (few : Few h) where
 
   -- written, then read
 
-  lead : (o : Opcode) (fs : List Shape) → length fs ≡ arity o → by_first h (shape_of (opcode_name o) ∷ fs) ≡ ok_or (operands_of h o fs) fault.Field
-  lead o fs e = ap (λ w. by_opcode h w fs) (opcode_inverse.reads o tt) ∙ cond-true _ _ _ (eq-eqb (length fs) (arity o) e)
+  lead : (o : Opcode) (fs : List Shape) → length fs ≡ arity o → by_first opcode_name opcodes arity (operands_of h) (shape_of (opcode_name o) ∷ fs) ≡ ok_or (operands_of h o fs) fault.Field
+  lead = first_written opcode_name opcodes arity (operands_of h) opcode_inverse
 
   abbrev num : ℕ → Shape
   num n = shape_of (decimal n)
 
-  pub node_written : (n : Node) → Sound h.temporaries h.nodes n → by_first h (map shape_of (node_fields n)) ≡ Ok n
+  pub node_written : (n : Node) → Sound h.temporaries h.nodes n → by_first opcode_name opcodes arity (operands_of h) (map shape_of (node_fields n)) ≡ Ok n
   node_written (node.Const d k next) s =
       lead Const (num d ∷ num k ∷ num next ∷ []) refl
       ∙ (λ i. ok_or (and_then (temporaries.reads d s.0 i) (λ x. and_then (values.reads k s.1 i) (λ y. option_map (λ z. node.Const x y z) (successors.reads next s.2 i)))) fault.Field)
@@ -172,18 +170,7 @@ module _ (h : Heading) (few : Few h) where
     operands_are Return [] l e = absurd (omega arith)
     operands_are Return (a ∷ x ∷ fs) l e = absurd (omega arith)
 
-    ok_some : (o : Option Node) → ok_or o fault.Field ≡ Ok n → o ≡ Some n
-    ok_some None e = grind arith
-    ok_some (Some x) e = let p : x ≡ n = cc in ap Some p
-
-    pub node_read : (fs : List (List ℕ)) → by_first h (map shape_of fs) ≡ Ok n → Says fs n
-    node_read [] e = grind arith
-    node_read (f ∷ fs) e = worded (word_in opcode_name opcodes (shape_of f)) refl e
-      where
-        counted : (o : Opcode) (t : Bool) → eqb (length (map shape_of fs)) (arity o) ≡ t → f ≡ opcode_name o → cond t (ok_or (operands_of h o (map shape_of fs)) fault.Field) (Err fault.Word) ≡ Ok n → Says (f ∷ fs) n
-        counted o true t is k = subst (λ g. Says (g ∷ fs) n) (sym is) (operands_are o fs (sym (length-map fs shape_of) ∙ eqb-true _ _ t) (ok_some _ k))
-        counted o false t is k = grind arith
-
-        worded : (w : Option Opcode) → word_in opcode_name opcodes (shape_of f) ≡ w → by_opcode h w (map shape_of fs) ≡ Ok n → Says (f ∷ fs) n
-        worded None q k = grind arith
-        worded (Some o) q k = counted o (eqb (length (map shape_of fs)) (arity o)) refl (opcode_inverse.is f o q).0 k
+    pub node_read : (fs : List (List ℕ)) → by_first opcode_name opcodes arity (operands_of h) (map shape_of fs) ≡ Ok n → Says fs n
+    node_read fs e =
+        let r = first_read opcode_name opcodes arity (operands_of h) opcode_inverse fs n e in
+        subst (λ gs. Says gs n) (sym r.is) (operands_are r.leader r.rest r.long r.read)

@@ -1,15 +1,15 @@
 -- Reading and writing a whole source undo each other.
 use Rattle.std.proofs.Common.{◌≡◌, ℕ, suc, ◌+◌, ◌*◌, ◌^◌, ◌<◌, ◌≤◌, min, Bool, true, false, cond, eqb, List, [], ◌∷◌, map, length, Some, None, Ok, Err, codes, decimal, Option, Result, sym, refl, ap, ◌∙◌, subst, arith}
 use Rattle.std.proofs.lemmas.List.{length-map, length-append}
-use Rattle.std.proofs.lemmas.Bool.{cond-true, cond-false, eq-eqb, ne_eqb, eqb-true}
+use Rattle.std.proofs.lemmas.Bool.{cond-true, eq-eqb, eqb-true}
 use Rattle.std.proofs.lemmas.Fmt.{length-decimal-le}
 use Rattle.std.specs.List.{AllByRecursion}
 use Rattle.std.specs.Option.{option_map}
 use Rattle.text.specs.Parts.{lines_of, fields_of, sized, ended, written}
-use Rattle.text.specs.Fields.{shape_of, shapes_of, number_between, word_in, and_then}
+use Rattle.text.specs.Fields.{Shape, shape_of, shapes_of, number_between, after_title, by_first, and_then}
 use Rattle.text.specs.declared.fields.Fault.{Fault}
 use Rattle.text.proofs.TextLaws.{Lacks, AllLack, Plain, AllPlain, cut_written, written_cut, sized-written}
-use Rattle.text.proofs.FieldLaws.{between_inverse, mapped_some, decimal_lacks}
+use Rattle.text.proofs.FieldLaws.{between_inverse, after_title_is, mapped_some, decimal_lacks}
 use Rattle.text.proofs.Saying.{and_then-some}
 use Rattle.refusal.specs.declared.Refusal.{Refusal}
 use Rattle.refusal.specs.declared.Refusal.TheVariants.{SourceSize, SourceLength}
@@ -18,12 +18,11 @@ use Rattle.source.specs.declared.node.Node.{Node}
 use Rattle.source.specs.declared.node.Node.TheVariants.{Const, Mov, Binary, Call, Branch, Return}
 use Rattle.source.specs.declared.words.Opcode.{Opcode}
 use Rattle.source.specs.declared.words.Opcode.TheVariants as opcode
-use Rattle.source.specs.declared.words.Title.TheVariants as title
 use Rattle.source.specs.Nodes.{Sound}
-use Rattle.source.specs.Words.{opcode_name, title_name, titles}
-use Rattle.source.specs.Reading.{Source, heading_from, heading_of, node_of, refused, then_read, with_first, read_nodes, sourced, counted, headed, read_source}
+use Rattle.source.specs.Words.{opcode_name, opcodes}
+use Rattle.source.specs.Reading.{Source, heading_from, heading_of, arity, operands_of, node_of, then_read, with_first, read_nodes, sourced, counted, headed, read_source}
 use Rattle.source.specs.Writing.{heading_fields, node_fields, source_text, IsTextOf, ReadIsWritten, WrittenIsRead}
-use Rattle.source.proofs.Wording.{opcode_inverse, opcode_short, condition_inverse, condition_short, title_inverse}
+use Rattle.source.proofs.Wording.{opcode_inverse, opcode_short, condition_inverse, condition_short}
 use Rattle.source.proofs.NodeLaws.{Few, Says, node_written, node_read}
 
 -- the numbers of a heading are in range
@@ -45,34 +44,22 @@ head_fields h = codes "source" ∷ decimal h.parameters ∷ decimal h.temporarie
 -- a heading, read
 
 module _ (h : Heading) where
-  four_is : (a b c d : List ℕ) → heading_from (shape_of a) (shape_of b) (shape_of c) (shape_of d) ≡ Some h → ((a ∷ b ∷ c ∷ d ∷ []) ≡ head_fields h) × HeadingIn h
-  four_is a b c d e =
-      let w = and_then-some (word_in title_name titles (shape_of a)) _ h e in
-      let x = and_then-some (number_between 1 48 (shape_of c)) _ h w.2 in
+  fields_are : (fs : List (List ℕ)) → heading_of (map shape_of fs) ≡ Some h → (fs ≡ head_fields h) × HeadingIn h
+  unfolding heading_of
+  fields_are fs e =
+      let t = and_then-some (after_title (codes "source") (map shape_of fs)) _ h e in
+      let (b, c, d, is, r) = after_title_is (codes "source") fs t.0 t.1 in
+      let k : heading_from (shape_of b) (shape_of c) (shape_of d) ≡ Some h = ap (λ (r : Shape × Shape × Shape). heading_from r.0 r.1 r.2) (sym r) ∙ t.2 in
+      let x = and_then-some (number_between 1 48 (shape_of c)) _ h k in
       let y = and_then-some (number_between 0 (min x.0 8) (shape_of b)) _ h x.2 in
       let z = mapped_some _ (number_between 1 256 (shape_of d)) h y.2 in
-      let w' = title_inverse.is a w.0 w.1 in
       let x' = (between_inverse 1 48 (omega arith)).is c x.0 x.1 in
       let y' = (between_inverse 0 (min x.0 8) (omega arith)).is b y.0 y.1 in
       let z' = (between_inverse 1 256 (omega arith)).is d z.0 z.1 in
-      subst (λ g. ((a ∷ b ∷ c ∷ d ∷ []) ≡ head_fields g) × HeadingIn g) z.2 (
-        (λ i. (w'.0 ∙ titled w.0) i ∷ y'.0 i ∷ x'.0 i ∷ z'.0 i ∷ []),
+      subst (λ g. (fs ≡ head_fields g) × HeadingIn g) z.2 (
+        is ∙ (λ i. codes "source" ∷ y'.0 i ∷ x'.0 i ∷ z'.0 i ∷ []),
         record { parameters_few = omega (arith, y'.1.1); parameters_within = omega (arith, y'.1.1); temporaries_some = x'.1.0; temporaries_few = x'.1.1; nodes_some = z'.1.0; nodes_few = z'.1.1 },
       )
-    where
-      titled : (t : Rattle.source.specs.declared.words.Title.Title) → title_name t ≡ codes "source"
-      titled title.Source = refl
-
-  fields_are : (fs : List (List ℕ)) → heading_of (map shape_of fs) ≡ Some h → (fs ≡ head_fields h) × HeadingIn h
-  unfolding heading_of
-  fields_are [] e = grind arith
-  fields_are (a ∷ []) e = grind arith
-  fields_are (a ∷ b ∷ []) e = grind arith
-  fields_are (a ∷ b ∷ c ∷ []) e = grind arith
-  fields_are (a ∷ b ∷ c ∷ d ∷ []) e = four_is a b c d e
-  fields_are (a ∷ b ∷ c ∷ d ∷ g ∷ fs) e =
-      let many : eqb (length (map shape_of (a ∷ b ∷ c ∷ d ∷ g ∷ fs))) 4 ≡ false = ne_eqb (length (map shape_of (a ∷ b ∷ c ∷ d ∷ g ∷ fs))) 4 (omega arith) in
-      let q : ◌≡◌ {A = Option Heading} None (Some h) = sym (cond-false _ _ _ many) ∙ e in grind arith
 
   pub heading_is : (line : List ℕ) → Some h ≡ heading_of (shapes_of line) → (fields_of line ≡ head_fields h) × HeadingIn h
   heading_is line e = fields_are (fields_of line) (sym e)
@@ -80,8 +67,8 @@ module _ (h : Heading) where
   heading_ok : HeadingIn h → heading_of (map shape_of (head_fields h)) ≡ Some h
   unfolding heading_of
   heading_ok w =
-      (λ i. and_then (title_inverse.reads title.Source tt i) (λ _. and_then ((between_inverse 1 48 (omega arith)).reads h.temporaries (w.temporaries_some, w.temporaries_few) i) (λ t. and_then (number_between 0 (min t 8) (shape_of (decimal h.parameters))) (λ k.
-      option_map (λ m. record { parameters = k; temporaries = t; nodes = m }) (number_between 1 256 (shape_of (decimal h.nodes)))))))
+      (λ i. and_then ((between_inverse 1 48 (omega arith)).reads h.temporaries (w.temporaries_some, w.temporaries_few) i) (λ t. and_then (number_between 0 (min t 8) (shape_of (decimal h.parameters))) (λ k.
+      option_map (λ m. record { parameters = k; temporaries = t; nodes = m }) (number_between 1 256 (shape_of (decimal h.nodes))))))
       ∙ (λ i. and_then ((between_inverse 0 (min h.temporaries 8) (omega arith)).reads h.parameters (omega arith, omega (arith, w.parameters_few, w.parameters_within)) i) (λ k.
       option_map (λ m. record { parameters = k; temporaries = h.temporaries; nodes = m }) ((between_inverse 1 256 (omega arith)).reads h.nodes (w.nodes_some, w.nodes_few) i)))
 
@@ -118,7 +105,7 @@ module _ (h : Heading) (w : Few h) where
   nodes_written k (l ∷ ls) (n ∷ ns) e s =
       let here : fields_of l ≡ node_fields n = cc in
       let more : map fields_of ls ≡ map node_fields ns = cc in
-      (λ i. then_read k ((ap (λ fs. Rattle.source.specs.Reading.by_first h (map shape_of fs)) here ∙ node_written h w n s.0) i) (nodes_written (k + 1) ls ns more s.1 i))
+      (λ i. then_read k ((ap (λ fs. by_first opcode_name opcodes arity (operands_of h) (map shape_of fs)) here ∙ node_written h w n s.0) i) (nodes_written (k + 1) ls ns more s.1 i))
 
 -- what `read_source` found
 
@@ -263,7 +250,7 @@ written_is_read s w =
     let hw : HeadingIn h = record { parameters_few = w.parameters_few; parameters_within = w.parameters_within; temporaries_some = w.temporaries_some; temporaries_few = w.temporaries_few; nodes_some = w.nodes_some; nodes_few = w.nodes_few } in
     let rows = heading_fields s ∷ map node_fields s.nodes in
     let all : AllByRecursion Line rows = (
-      record { some = omega arith; few = omega arith; clean = (record { no_tab = title_inverse.lacks 9 (omega arith) title.Source tt; no_end = title_inverse.lacks 10 (omega arith) title.Source tt; short = omega arith }, (number_clean s.parameters (omega (arith, w.parameters_few)), (number_clean s.temporaries (omega (arith, w.temporaries_few)), (number_clean (length s.nodes) (omega (arith, w.nodes_few)), tt)))) },
+      record { some = omega arith; few = omega arith; clean = (record { no_tab = omega arith; no_end = omega arith; short = omega arith }, (number_clean s.parameters (omega (arith, w.parameters_few)), (number_clean s.temporaries (omega (arith, w.temporaries_few)), (number_clean (length s.nodes) (omega (arith, w.nodes_few)), tt)))) },
       node_lines s.temporaries (length s.nodes) w.temporaries_few w.nodes_few s.nodes w.sound,
     ) in
     let good : sized (written rows) ≡ true = sized-written rows (lines_plain rows all) (omega arith) (omega (arith, lines_short rows all, length-map s.nodes node_fields, w.nodes_few)) in

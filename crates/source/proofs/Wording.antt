@@ -7,11 +7,9 @@ use Rattle.text.proofs.FieldLaws.{Inverse, word_inverse}
 use Rattle.source.specs.declared.node.Operation.TheVariants.{Add, Sub, Mul, Min, Max}
 use Rattle.source.specs.declared.node.Condition.{Condition}
 use Rattle.source.specs.declared.node.Condition.TheVariants.{Eq, Lt, Le}
-use Rattle.source.specs.declared.words.Title.{Title}
-use Rattle.source.specs.declared.words.Title.TheVariants as title
 use Rattle.source.specs.declared.words.Opcode.{Opcode}
 use Rattle.source.specs.declared.words.Opcode.TheVariants.{Const, Mov, Binary, Call, Branch, Return}
-use Rattle.source.specs.Words.{opcode_name, condition_name, title_name, opcodes, conditions, titles}
+use Rattle.source.specs.Words.{opcode_name, condition_name, opcodes, conditions}
 
 -- what holds of each opcode holds of all
 each : (P : Opcode → Type 0) → P Const → P Mov → P (Binary Add) → P (Binary Sub) → P (Binary Mul) → P (Binary Min) → P (Binary Max) → P Call → P Branch → P Return → (o : Opcode) → P o
@@ -64,15 +62,3 @@ condition_short Le = omega arith
 
 pub condition_inverse : Inverse (word_in condition_name conditions) condition_name (λ _. Unit {0})
 condition_inverse = word_inverse condition_name conditions condition_plain condition_found condition_lacks
-
-title_plain : (t : Title) → shape_of (title_name t) ≡ word (title_name t)
-title_plain title.Source = refl
-
-title_found : (t : Title) → named title_name titles (title_name t) ≡ Some t
-title_found title.Source = refl
-
-title_lacks : (b : ℕ) → b < 48 → (t : Title) → Lacks b (title_name t)
-title_lacks b low title.Source = omega arith
-
-pub title_inverse : Inverse (word_in title_name titles) title_name (λ _. Unit {0})
-title_inverse = word_inverse title_name titles title_plain title_found title_lacks

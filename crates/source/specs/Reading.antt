@@ -1,8 +1,8 @@
 -- How a source text is read: the source, or the first question that says no.
-use Rattle.std.specs.Prelude.{ℕ, ◌+◌, ◌^◌, min, cond, List, [], ◌∷◌, length, Some, None, Ok, Err, Option, Result, ◌==◌}
-use Rattle.std.specs.Option.{option_map, ok_or}
+use Rattle.std.specs.Prelude.{ℕ, ◌+◌, ◌^◌, min, cond, List, [], ◌∷◌, length, Some, None, Ok, Err, codes, Option, Result, ◌==◌}
+use Rattle.std.specs.Option.{option_map}
 use Rattle.text.specs.Parts.{lines_of, sized}
-use Rattle.text.specs.Fields.{Shape, shapes_of, number_between, number_below, word_in, at, and_then}
+use Rattle.text.specs.Fields.{Shape, shapes_of, number_between, number_below, word_in, after_title, by_first, at, and_then}
 use Rattle.text.specs.declared.fields.Fault.{Fault}
 use Rattle.text.specs.declared.fields.Fault.TheVariants.{Word, Field}
 use Rattle.refusal.specs.declared.Refusal.{Refusal}
@@ -13,7 +13,7 @@ use Rattle.source.specs.declared.node.Node.{Node}
 use Rattle.source.specs.declared.node.Node.TheVariants as node
 use Rattle.source.specs.declared.words.Opcode.{Opcode}
 use Rattle.source.specs.declared.words.Opcode.TheVariants.{Const, Mov, Binary, Call, Branch, Return}
-use Rattle.source.specs.Words.{opcode_name, condition_name, title_name, opcodes, conditions, titles}
+use Rattle.source.specs.Words.{opcode_name, condition_name, opcodes, conditions}
 
 -- P parameters, V temporaries and the nodes in their order
 pub record Source : Type 0 where
@@ -21,14 +21,13 @@ pub record Source : Type 0 where
   pub temporaries : ℕ
   pub nodes : List Node
 
--- `source P V N`: V from 1 to 48, P from 0 to 8 and at most V, N from 1 to 256
-abbrev pub heading_from : Shape → Shape → Shape → Shape → Option Heading
-heading_from title p v n =
-    and_then (word_in title_name titles title) (λ _. and_then (number_between 1 48 v) (λ t. and_then (number_between 0 (min t 8) p) (λ k.
-    option_map (λ m. record { parameters = k; temporaries = t; nodes = m }) (number_between 1 256 n))))
+-- `source P V N`, after its title: V from 1 to 48, P from 0 to 8 and at most V, N from 1 to 256
+abbrev pub heading_from : Shape → Shape → Shape → Option Heading
+heading_from p v n =
+    and_then (number_between 1 48 v) (λ t. and_then (number_between 0 (min t 8) p) (λ k. option_map (λ m. record { parameters = k; temporaries = t; nodes = m }) (number_between 1 256 n)))
 
 unfoldable pub heading_of : List Shape → Option Heading
-heading_of fs = cond (length fs == 4) (heading_from (at fs 0) (at fs 1) (at fs 2) (at fs 3)) None
+heading_of fs = and_then (after_title (codes "source") fs) (λ r. heading_from r.0 r.1 r.2)
 
 -- how many fields follow the word
 abbrev pub arity : Opcode → ℕ
@@ -94,18 +93,9 @@ module _ (h : Heading) where
   operands_of Branch fs = branch_of (at fs 0) (at fs 1) (at fs 2) (at fs 3) (at fs 4)
   operands_of Return fs = return_of (at fs 0)
 
-  -- the word is known, then it has its count of fields, then they are right
-  abbrev pub by_opcode : Option Opcode → List Shape → Result Node Fault
-  by_opcode None fs = Err Word
-  by_opcode (Some o) fs = cond (length fs == arity o) (ok_or (operands_of o fs) Field) (Err Word)
-
-  abbrev pub by_first : List Shape → Result Node Fault
-  by_first [] = Err Word
-  by_first (f ∷ fs) = by_opcode (word_in opcode_name opcodes f) fs
-
   -- the node that a line gives
   unfoldable pub node_of : List ℕ → Result Node Fault
-  node_of line = by_first (shapes_of line)
+  node_of line = by_first opcode_name opcodes arity operands_of (shapes_of line)
 
   -- the nodes of the lines from the k-th on; each line passes its questions before the next
   unfoldable pub read_nodes : ℕ → List (List ℕ) → Result (List Node) Refusal

@@ -4,7 +4,6 @@ use Rattle.source.specs.declared.node.Operation.{Operation}
 use Rattle.source.specs.declared.node.Operation.TheVariants.{Add, Sub, Mul, Min, Max}
 use Rattle.source.specs.declared.node.Condition.{Condition}
 use Rattle.source.specs.declared.node.Condition.TheVariants.{Eq, Lt, Le}
-use Rattle.source.specs.declared.words.Title.{Title}
 use Rattle.source.specs.declared.words.Opcode.{Opcode}
 use Rattle.source.specs.declared.words.Opcode.TheVariants.{Const, Mov, Binary, Call, Branch, Return}
 
@@ -33,9 +32,3 @@ opcodes = Const ∷ Mov ∷ Binary Add ∷ Binary Sub ∷ Binary Mul ∷ Binary 
 
 abbrev pub conditions : List Condition
 conditions = Eq ∷ Lt ∷ Le ∷ []
-
-abbrev pub title_name : Title → List ℕ
-title_name Title.Source = codes "source"
-
-abbrev pub titles : List Title
-titles = Title.Source ∷ []

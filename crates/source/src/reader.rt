@@ -1,6 +1,6 @@
 // The reader of source texts.
-ghost use Rattle.std.specs.Prelude.{◌≡◌, ◌+◌, ◌^◌, ◌<◌, ◌≤◌, min, [], length, drop, IfOk, Ok, Err, vec_capacity, MatchResult};
-ghost use Rattle.text.specs.Parts.{lines_of};
+ghost use Rattle.std.specs.Prelude.{◌≡◌, ◌+◌, ◌^◌, ◌<◌, ◌≤◌, min, [], length, IfOk, Ok, Err, vec_capacity, MatchResult};
+ghost use Rattle.text.specs.Lines.{lines_left};
 ghost use Rattle.source.specs.Reading.{Source, refused, read_nodes, read_source};
 ghost use Rattle.source.specs.Writing.{IsTextOf};
 ghost use Rattle.source.specs.Tables.{nodes_in, source_in};
@@ -12,7 +12,7 @@ use crate::table::Table;
 use refusal::Refusal;
 use std::alloc::{AllocError, Global};
 use text::fields::Fault;
-use text::parts::{count_lines, is_sized, next_line};
+use text::lines::Lines;
 
 // A fault of the line with this number.
 fn refuse(line: usize, fault: Fault) -> Refusal
@@ -32,25 +32,16 @@ fn odd_line(lines: usize, wanted: usize) -> usize
     lines.min(wanted) + 2
 }
 
-// Reads the lines from `from` on, the first of which is line 2, each to a node.
-fn read_lines(nodes: &mut Vec<Node>, text: &[u8], from: usize, h: Heading) -> Result<(), Refusal>
+// Reads lines, each to a node.
+fn read_lines(nodes: &mut Vec<Node>, lines: Lines, h: Heading) -> Result<(), Refusal>
     requires empty { nodes.old.items ≡ [] }
-    requires room { length (lines_of (drop from text.now)) ≤ vec_capacity nodes.old }
-    requires short { length text.now ≤ 32768 }
-    requires within { from ≤ length text.now + 1 }
-    ensures read { MatchResult result (λ _. read_nodes h 2 (lines_of (drop from text.now)) ≡ Ok nodes.new.items) (λ e. read_nodes h 2 (lines_of (drop from text.now)) ≡ Err e) }
+    requires room { length (lines_left lines) ≤ vec_capacity nodes.old }
+    ensures read { MatchResult result (λ _. read_nodes h lines.entry.number (lines_left lines.entry) ≡ Ok nodes.new.items) (λ e. read_nodes h lines.entry.number (lines_left lines.entry) ≡ Err e) }
     ensures room { vec_capacity nodes.old ≤ vec_capacity nodes.new }
 {
-    let mut at = from;
-    let mut number = 2;
-    while at < text.len() {
-        let (line, next) = next_line(text, at);
-        match read_node(line, at, h) {
-            Ok(node) => nodes.push_reserved(node),
-            Err(fault) => return Err(refuse(number, fault)),
-        }
-        at = next;
-        number += 1;
+    for line in lines {
+        let node = read_node(&line, h).map_err(|fault| refuse(line.number, fault))?;
+        nodes.push_reserved(node);
     }
     Ok(())
 }
@@ -75,9 +66,8 @@ impl Table {
         ensures { nodes_in self.new ≡ nodes_in other.now }
     {
         self.nodes.clear();
-        let nodes = other.nodes.as_slice();
-        for n in 0..nodes.len() {
-            self.nodes.push_reserved(nodes[n]);
+        for node in &other.nodes {
+            self.nodes.push_reserved(*node);
         }
     }
 
@@ -89,23 +79,20 @@ impl Table {
         ensures read { MatchResult result (λ h. read_source text.now ≡ Ok (source_in h self.new)) (λ e. read_source text.now ≡ Err e) }
     {
         self.nodes.clear();
-        if !is_sized(text) {
+        let Some(mut lines) = Lines::of(text) else {
             return Err(Refusal::SourceSize);
-        }
-        let (line, next) = next_line(text, 0);
-        let Some(h) = find_heading(line) else {
+        };
+        let Some(h) = lines.next().and_then(|line| find_heading(&line)) else {
             return Err(Refusal::SourceHeading);
         };
-        let lines = count_lines(text, next);
+        let count = lines.count();
         let wanted = h.nodes as usize;
-        if lines != wanted {
+        if count != wanted {
             return Err(Refusal::SourceLength {
-                line: odd_line(lines, wanted),
+                line: odd_line(count, wanted),
             });
         }
-        match read_lines(&mut self.nodes, text, next, h) {
-            Ok(()) => Ok(h),
-            Err(refusal) => Err(refusal),
-        }
+        read_lines(&mut self.nodes, lines, h)?;
+        Ok(h)
     }
 }

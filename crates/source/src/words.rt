@@ -1,11 +1,11 @@
 // The words of a source text.
-ghost use Rattle.source.specs.Words.{operation_name, condition_name, opcode_name, title_name};
+ghost use Rattle.source.specs.Words.{operation_name, condition_name, opcode_name};
 
 use crate::node::{Condition, Operation};
 use text::words::Spelled;
 
 // What the first word of a node's line says.
-#[derive(Clone, Copy)]
+#[derive(Clone, Copy, PartialEq, Eq)]
 pub enum Opcode {
     Const,
     Mov,
@@ -68,21 +68,5 @@ impl Spelled for Opcode {
             Opcode::Branch => b"br",
             Opcode::Return => b"ret",
         }
-    }
-}
-
-// The first word of the heading.
-#[derive(Clone, Copy)]
-pub enum Title {
-    Source,
-}
-
-pub const TITLES: [Title; 1] = [Title::Source];
-
-impl Spelled for Title {
-    ghost spelling = { title_name };
-
-    fn spell(self) -> &'static [u8] {
-        b"source"
     }
 }

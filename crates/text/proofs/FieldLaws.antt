@@ -1,15 +1,18 @@
 -- Reading and writing a field undo each other.
-use Rattle.std.proofs.Common.{◌≡◌, ℕ, ◌^◌, ◌<◌, ◌≤◌, Bool, true, false, cond, ◌&&◌, eqb, ltb, leb, List, [], ◌∷◌, Some, None, decimal, Option, sym, refl, ap, ◌∙◌, arith}
-use Rattle.std.proofs.lemmas.Bool.{cond-true, cond-false, eqb-true, ltb-true, lt-ltb, and_parts}
+use Rattle.std.proofs.Common.{◌≡◌, ℕ, ◌^◌, ◌<◌, ◌≤◌, Bool, true, false, cond, ◌&&◌, eqb, ltb, leb, List, [], ◌∷◌, map, length, drop, Some, None, Ok, Err, IsSome, decimal, Option, sym, refl, ap, ◌∙◌, arith}
+use Rattle.std.proofs.lemmas.Bool.{cond-true, cond-false, eq-eqb, ne_eqb, eqb-true, ltb-true, lt-ltb, and_parts}
 use Rattle.std.proofs.lemmas.Bool.Decides.{nat_tests}
+use Rattle.std.proofs.lemmas.List.{length-map}
 use Rattle.std.specs.Str.{all_ascii_digits}
+use Rattle.std.proofs.lemmas.Slice.Eq.{bytes_eq-Decides}
 use Rattle.std.specs.Char.{is_ascii_digit}
-use Rattle.std.specs.Option.{option_map}
+use Rattle.std.specs.Option.{option_map, ok_or, is_some}
 use Rattle.text.specs.declared.fields.Location.{Location}
 use Rattle.text.specs.declared.fields.Location.TheVariants.{Register, Slot}
 use Rattle.text.specs.Number.{number_of}
 use Rattle.text.specs.Words.{named}
-use Rattle.text.specs.Fields.{Shape, word, number, location, shape_of, location_of, or_number, or_location, number_between, number_below, word_in}
+use Rattle.text.specs.declared.fields.Fault.TheVariants as fault
+use Rattle.text.specs.Fields.{Shape, word, number, location, shape_of, location_of, or_number, or_location, number_between, number_below, word_in, says, after_title, first_word, by_word, by_first}
 use Rattle.text.proofs.Numbers.{number_bad}
 use Rattle.text.proofs.NumberLaws.{number_decimal, decimal_number, digits_of_decimal}
 use Rattle.text.proofs.Naming.{named_is}
@@ -150,3 +153,73 @@ word_inverse {W} spelling words plain found lack = record {
     is f w (word bs) q k = shape_is_word f bs q ∙ named_is spelling words bs w k
     is f w (number n) q k = grind arith
     is f w (location l) q k = grind arith
+
+-- a field that says a word is that word
+says_is : (w f : List ℕ) → says w (shape_of f) ≡ true → f ≡ w
+says_is w f e = is (shape_of f) refl e
+  where
+    is : (h : Shape) → shape_of f ≡ h → says w h ≡ true → f ≡ w
+    is (word bs) q k = shape_is_word f bs q ∙ (bytes_eq-Decides bs w).0 k
+    is (number n) q k = grind arith
+    is (location l) q k = grind arith
+
+-- a line with a title: the title, and three fields
+pub after_title_is : (w : List ℕ) (fs : List (List ℕ)) (r : Shape × Shape × Shape) → after_title w (map shape_of fs) ≡ Some r → (a : List ℕ) × (b : List ℕ) × (c : List ℕ) × (fs ≡ w ∷ a ∷ b ∷ c ∷ []) × (r ≡ (shape_of a, shape_of b, shape_of c))
+after_title_is w [] r e = grind arith
+after_title_is w (x ∷ []) r e = grind arith
+after_title_is w (x ∷ a ∷ []) r e = grind arith
+after_title_is w (x ∷ a ∷ b ∷ []) r e = grind arith
+after_title_is w (x ∷ a ∷ b ∷ c ∷ []) r e = go (says w (shape_of x)) refl e
+  where
+    go : (t : Bool) → says w (shape_of x) ≡ t → cond t (Some (shape_of a, shape_of b, shape_of c)) None ≡ Some r → (a' : List ℕ) × (b' : List ℕ) × (c' : List ℕ) × ((x ∷ a ∷ b ∷ c ∷ []) ≡ w ∷ a' ∷ b' ∷ c' ∷ []) × (r ≡ (shape_of a', shape_of b', shape_of c'))
+    go true t k = let p : (shape_of a, shape_of b, shape_of c) ≡ r = cc in (a, b, c, (λ i. says_is w x t i ∷ a ∷ b ∷ c ∷ []), sym p)
+    go false t k = grind arith
+after_title_is w (x ∷ a ∷ b ∷ c ∷ d ∷ fs) r e =
+    let many : eqb (length (map shape_of (x ∷ a ∷ b ∷ c ∷ d ∷ fs))) 4 ≡ false = ne_eqb (length (map shape_of (x ∷ a ∷ b ∷ c ∷ d ∷ fs))) 4 (omega arith) in
+    let bad : (eqb (length (map shape_of (x ∷ a ∷ b ∷ c ∷ d ∷ fs))) 4 && says w (shape_of x)) ≡ false = ap (λ t. t && says w (shape_of x)) many in
+    let q : ◌≡◌ {A = Option (Shape × Shape × Shape)} None (Some r) = sym (cond-false _ _ _ bad) ∙ e in grind arith
+
+-- a line that begins with a word
+module _ {W A : Type 0} (spelling : W → List ℕ) (words : List W) (arity : W → ℕ) (operands : W → List Shape → Option A) where
+  -- the word is not known, or more fields follow than any word asks for
+  pub first_refused : (n : ℕ) → ((w : W) → arity w < n) → (fs : List Shape) → (IsSome (first_word spelling words fs) → n < length fs) → by_first spelling words arity operands fs ≡ Err fault.Word
+  first_refused n few [] many = refl
+  first_refused n few (f ∷ fs) many = go (word_in spelling words f) refl
+    where
+      go : (o : Option W) → word_in spelling words f ≡ o → by_word spelling words arity operands (word_in spelling words f) fs ≡ Err fault.Word
+      go None q = ap (λ o. by_word spelling words arity operands o fs) q
+      go (Some w) q =
+          let long : n < length (f ∷ fs) = many (ap is_some q) in
+          ap (λ o. by_word spelling words arity operands o fs) q ∙ cond-false _ _ _ (ne_eqb (length fs) (arity w) (omega (arith, few w)))
+
+  pub first_known : (w : W) (fs : List Shape) → first_word spelling words fs ≡ Some w → by_first spelling words arity operands fs ≡ by_word spelling words arity operands (Some w) (drop 1 fs)
+  first_known w [] e = grind arith
+  first_known w (f ∷ fs) e = ap (λ o. by_word spelling words arity operands o fs) e
+
+  module _ (inverse : Inverse (word_in spelling words) spelling (λ _. Unit {0})) where
+    pub first_written : (w : W) (fs : List Shape) → length fs ≡ arity w → by_first spelling words arity operands (shape_of (spelling w) ∷ fs) ≡ ok_or (operands w fs) fault.Field
+    first_written w fs e = ap (λ o. by_word spelling words arity operands o fs) (inverse.reads w tt) ∙ cond-true _ _ _ (eq-eqb (length fs) (arity w) e)
+
+    -- the word and its operands, where they are read as a
+    pub record Led (fs : List (List ℕ)) (a : A) : Type 0 where
+      pub leader : W
+      pub rest : List (List ℕ)
+      pub is : fs ≡ spelling leader ∷ rest
+      pub long : length rest ≡ arity leader
+      pub read : operands leader (map shape_of rest) ≡ Some a
+
+    pub first_read : (fs : List (List ℕ)) (a : A) → by_first spelling words arity operands (map shape_of fs) ≡ Ok a → Led fs a
+    first_read [] a e = grind arith
+    first_read (f ∷ fs) a e = worded (word_in spelling words (shape_of f)) refl e
+      where
+        ok_some : (o : Option A) → ok_or o fault.Field ≡ Ok a → o ≡ Some a
+        ok_some None k = grind arith
+        ok_some (Some x) k = let p : x ≡ a = cc in ap Some p
+
+        counted : (w : W) (t : Bool) → eqb (length (map shape_of fs)) (arity w) ≡ t → f ≡ spelling w → cond t (ok_or (operands w (map shape_of fs)) fault.Field) (Err fault.Word) ≡ Ok a → Led (f ∷ fs) a
+        counted w true t is k = record { leader = w; rest = fs; is = λ i. is i ∷ fs; long = sym (length-map fs shape_of) ∙ eqb-true _ _ t; read = ok_some _ k }
+        counted w false t is k = grind arith
+
+        worded : (o : Option W) → word_in spelling words (shape_of f) ≡ o → by_word spelling words arity operands o (map shape_of fs) ≡ Ok a → Led (f ∷ fs) a
+        worded None q k = grind arith
+        worded (Some w) q k = counted w (eqb (length (map shape_of fs)) (arity w)) refl (inverse.is f w q).0 k

@@ -2,7 +2,6 @@ pub mod Numbers
 pub mod NumberLaws
 pub mod Splits
 pub mod Naming
-pub mod Locations
 pub mod Rows
 pub mod TextLaws
 pub mod FieldLaws

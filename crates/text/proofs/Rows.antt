@@ -1,60 +1,55 @@
--- A row that is filled from its front.
-use Rattle.std.proofs.Common.{◌≡◌, ℕ, ◌+◌, ◌-◌, ◌<◌, ◌≤◌, List, [], ◌∷◌, ◌++◌, map, length, take, drop, set, sym, refl, ap, ◌∙◌, subst, arith}
-use Rattle.std.proofs.lemmas.List.{take_more_set, map_push, append_assoc, append-nil, take_rest, take_all, length-take-le, length-drop}
+-- The lines that a text gives, and the fields that a line gives, one after another.
+use Rattle.std.proofs.Common.{◌≡◌, ℕ, ◌<◌, List, [], ◌∷◌, ◌++◌, map, length, Some, None, Ok, Err, Option, Result, MatchResult, OnErr, sym, refl, ap, ◌∙◌, subst, arith, length-append}
+use Rattle.std.specs.Result.{result_ok}
+use Rattle.std.proofs.lemmas.List.{append-nil, length-map}
+use Rattle.std.proofs.lemmas.Iterator.Consumers.{count_from_yields_List, YieldsList-from_shown}
+use Rattle.std.specs.Iterator.{Yields, YieldsThen, Drains}
 use Rattle.text.specs.declared.fields.Field.{Field}
-use Rattle.text.specs.Parts.{fields_of, first_part}
-use Rattle.text.specs.Fields.{shape, shape_of, shapes_of, bytes, start_of, starts}
-use Rattle.text.proofs.Splits.{parts_more, parts_last, some-parts}
+use Rattle.text.specs.declared.lines.Fields.{Fields}
+use Rattle.text.specs.Fields.{shape, shape_of, bytes, start_of, starts}
+use Rattle.text.specs.declared.lines.Line.{Line}
+use Rattle.text.specs.declared.lines.Lines.{Lines}
+use Rattle.text.specs.Lines.{lines_left, LineSteps, fields_left, FieldSteps}
 
-module _ {X Y : Type 0} (f : X → Y) (row : List X) (i : ℕ) (x : X) (h : i < length row) where
-  pub row_more : (y : Y) (ys zs : List Y) → f x ≡ y → map f (take i row) ++ (y ∷ ys) ≡ zs → map f (take (i + 1) (set row i x)) ++ ys ≡ zs
-  row_more y ys zs e k =
-      ap (λ r. map f r ++ ys) (take_more_set row i x h) ∙ ap (λ r. r ++ ys) (map_push f (take i row) x) ∙ append_assoc (map f (take i row)) (f x ∷ []) ys ∙ ap (λ v. map f (take i row) ++ (v ∷ ys)) e ∙ k
+yielded : (s : Fields) (xs : List Field) (t : Fields) → Yields FieldSteps s xs t → (map bytes xs ++ fields_left t ≡ fields_left s) × (map shape xs ≡ map shape_of (map bytes xs)) × (map start_of xs ++ starts t.start (fields_left t) ≡ starts s.start (fields_left s))
+yielded s [] t e = (ap fields_left (sym e), refl, ap (λ (u : Fields). starts u.start (fields_left u)) (sym e))
+yielded s (x ∷ xs) t (j, step, y) =
+    let more = yielded j xs t y in (
+      ap (λ l. bytes x ∷ l) more.0 ∙ sym step.0,
+      (λ i. step.1 i ∷ more.1 i),
+      (λ i. step.2 i ∷ more.2 i) ∙ ap (λ k. s.start ∷ starts k (fields_left j)) step.3 ∙ ap (starts s.start) (sym step.0),
+    )
 
-  pub row_last : (y : Y) (zs : List Y) → f x ≡ y → map f (take i row) ++ (y ∷ []) ≡ zs → map f (take (i + 1) (set row i x)) ≡ zs
-  row_last y zs e k = sym (append-nil _) ∙ row_more y [] zs e k
+-- all fields of a line are given
+all_yielded : (s : Fields) (xs : List Field) → Drains FieldSteps s xs → (map bytes xs ≡ fields_left s) × (map shape xs ≡ map shape_of (fields_left s)) × (map start_of xs ≡ starts s.start (fields_left s))
+all_yielded s xs (u, (t, y, end)) =
+    let all = yielded s xs t y in
+    let same : map bytes xs ≡ fields_left s = sym (append-nil _) ∙ ap (λ l. map bytes xs ++ l) (sym end.0) ∙ all.0 in (
+      same,
+      all.1 ∙ ap (map shape_of) same,
+      sym (append-nil _) ∙ ap (λ l. map start_of xs ++ starts t.start l) (sym end.0) ∙ all.2,
+    )
 
--- the first `count` places of the row hold the fields of the line up to `rest`, which stands at `at`
-pub record Filled (line : List ℕ) (start : ℕ) (row : List Field) (rest : List ℕ) (at count : ℕ) : Type 0 where
-  pub place : at + length rest ≡ start + length line
-  pub many : count + length (fields_of rest) ≡ length (fields_of line)
-  pub said : map shape (take count row) ++ shapes_of rest ≡ shapes_of line
-  pub same : map bytes (take count row) ++ fields_of rest ≡ fields_of line
-  pub begun : map start_of (take count row) ++ starts at (fields_of rest) ≡ starts start (fields_of line)
+-- there is a field besides those that are given
+one_more : (s : Fields) (xs : List Field) (x : Field) (u : Fields) → YieldsThen FieldSteps s xs (Some x) u → length xs < length (fields_left s)
+one_more s xs x u (t, y, step) = omega (arith, ap length (yielded s xs t y).0, length-append (map bytes xs) (fields_left t), length-map xs bytes, ap length step.0)
 
-pub filled_none : (line : List ℕ) (start : ℕ) (row : List Field) → Filled line start row line start 0
-filled_none line start row = record { place = refl; many = omega arith; said = refl; same = refl; begun = refl }
+-- a row that the fields are put into, by what the library says of it
+module _ {E : Type 0} (f : Fields) (was new : List Field) (empty : was ≡ []) where
+  pub row_read : (r : Result (Unit {0}) E) (o : Option (Unit {0})) (u : Unit {0}) → o ≡ result_ok r → o ≡ Some u → (it : Fields) × (xs : List Field) × (it ≡ f) × (new ≡ was ++ xs) × MatchResult r (λ _. Drains FieldSteps it xs) (λ _. (t : Fields) × Yields FieldSteps it xs t)
+      → (map bytes new ≡ fields_left f) × (map shape new ≡ map shape_of (fields_left f)) × (map start_of new ≡ starts f.start (fields_left f))
+  row_read (Err e) o u is some ran = let z : ◌≡◌ {A = Option (Unit {0})} None (Some u) = sym is ∙ some in grind arith
+  row_read (Ok v) o u is some (it, xs, same, items, all) =
+      let here : xs ≡ new = ap (λ l. l ++ xs) (sym empty) ∙ sym items in
+      all_yielded f new (subst (λ l. Drains FieldSteps f l) here (subst (λ i. Drains FieldSteps i xs) same all))
 
-module _ {line : List ℕ} {start : ℕ} {row : List Field} {rest : List ℕ} {at count : ℕ} (was : Filled line start row rest at count) (room : length (fields_of line) ≤ length row) (n : ℕ) (x : Field) (long : n ≡ length (first_part 9 rest)) (within : n ≤ length rest) (says : shape x ≡ shape_of (take (n - 0) rest)) (has : bytes x ≡ take (n - 0) rest) (stands : start_of x ≡ at) where
-  pub place_left : count < length row
-  place_left = omega (arith, some-parts 9 rest, was.many)
+  pub row_full : (r : Result (Unit {0}) E) (o : Option (Unit {0})) (n : ℕ) → o ≡ result_ok r → o ≡ None → OnErr r (length new ≡ n)
+      → OnErr r ((it : Fields) × (xs : List Field) × (x : Field) × (u : Fields) × (it ≡ f) × YieldsThen FieldSteps it xs (Some x) u × (new ≡ was ++ xs)) → n < length (fields_left f)
+  row_full (Ok v) o n is none long more = let z : ◌≡◌ {A = Option (Unit {0})} (Some v) None = sym is ∙ none in grind arith
+  row_full (Err e) o n is none long (it, xs, x, u, same, ran, items) =
+      let here : xs ≡ new = ap (λ l. l ++ xs) (sym empty) ∙ sym items in
+      omega (arith, ap length here, long, one_more f xs x u (subst (λ i. YieldsThen FieldSteps i xs (Some x) u) same ran))
 
-  says_it : shape x ≡ shape_of (take n rest)
-  says_it = says ∙ ap (λ k. shape_of (take k rest)) (let e : n - 0 ≡ n = omega arith in e)
-
-  has_it : bytes x ≡ take n rest
-  has_it = has ∙ ap (λ k. take k rest) (let e : n - 0 ≡ n = omega arith in e)
-
-  pub fill_more : (n ≡ length rest → ⊥) → Filled line start (set row count x) (take (length rest - (n + 1)) (drop (n + 1) rest)) (at + (n + 1)) (count + 1)
-  fill_more ne =
-      let cut : fields_of rest ≡ take n rest ∷ fields_of (drop (n + 1) rest) = subst (λ k. fields_of rest ≡ take k rest ∷ fields_of (drop (k + 1) rest)) (sym long) (parts_more 9 ([] ∷ []) rest (omega arith)) in
-      let wide : length (take n rest) ≡ n = length-take-le n rest within in
-      let next : at + length (take n rest) + 1 ≡ at + (n + 1) = omega arith in
-      subst (λ r. Filled line start (set row count x) r (at + (n + 1)) (count + 1)) (sym (take_rest rest (n + 1)))
-      (record {
-        place = simp length-drop (omega (arith, was.place));
-        many = omega (arith, ap length cut, was.many);
-        said = row_more shape row count x place_left (shape_of (take n rest)) (shapes_of (drop (n + 1) rest)) (shapes_of line) says_it (ap (λ ps. map shape (take count row) ++ map shape_of ps) (sym cut) ∙ was.said);
-        same = row_more bytes row count x place_left (take n rest) (fields_of (drop (n + 1) rest)) (fields_of line) has_it (ap (λ ps. map bytes (take count row) ++ ps) (sym cut) ∙ was.same);
-        begun = row_more start_of row count x place_left at (starts (at + (n + 1)) (fields_of (drop (n + 1) rest))) (starts start (fields_of line)) stands (ap (λ k. map start_of (take count row) ++ (at ∷ starts k (fields_of (drop (n + 1) rest)))) (sym next) ∙ ap (λ ps. map start_of (take count row) ++ starts at ps) (sym cut) ∙ was.begun);
-      })
-
-  pub fill_last : n ≡ length rest → (count + 1 ≡ length (fields_of line)) × (map shape (take (count + 1) (set row count x)) ≡ shapes_of line) × (map bytes (take (count + 1) (set row count x)) ≡ fields_of line) × (map start_of (take (count + 1) (set row count x)) ≡ starts start (fields_of line))
-  fill_last e =
-      let cut : fields_of rest ≡ rest ∷ [] = parts_last 9 rest (sym long ∙ e) in
-      let all : take n rest ≡ rest = take_all n rest (omega arith) in (
-        omega (arith, ap length cut, was.many),
-        row_last shape row count x place_left (shape_of rest) (shapes_of line) (says_it ∙ ap shape_of all) (ap (λ ps. map shape (take count row) ++ map shape_of ps) (sym cut) ∙ was.said),
-        row_last bytes row count x place_left rest (fields_of line) (has_it ∙ all) (ap (λ ps. map bytes (take count row) ++ ps) (sym cut) ∙ was.same),
-        row_last start_of row count x place_left at (starts start (fields_of line)) stands (ap (λ ps. map start_of (take count row) ++ starts at ps) (sym cut) ∙ was.begun),
-      )
+-- as many lines are counted as are left
+pub lines_counted : (s : Lines) (n : ℕ) → (xs : List Line) × Drains LineSteps s xs × (n ≡ length xs) → n ≡ length (lines_left s)
+lines_counted s n ran = count_from_yields_List s n ran (YieldsList-from_shown LineSteps (λ l. l.bytes.now) lines_left (λ s t e. ap length e.0) (λ s l t e. e.0) s)

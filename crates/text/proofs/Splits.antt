@@ -1,30 +1,69 @@
 -- Laws of parts.
-use Rattle.std.proofs.Common.{◌≡◌, ℕ, ◌+◌, ◌-◌, ◌<◌, ◌≤◌, Bool, true, false, eqb, List, [], ◌∷◌, length, get_or, take, drop, sym, refl, ap, ◌∙◌, subst, ⊎_elim, add-one, arith}
-use Rattle.std.proofs.lemmas.List.{at_drop_more, take_all, drop_all, take_rest, drop-drop, length-drop}
-use Rattle.std.proofs.lemmas.Bool.{cond-true, cond-false, eq-eqb, ne_eqb, cond_both, cases_lt}
-use Rattle.text.specs.Parts.{first_part, on_first, parts, lines_of}
+use Rattle.std.proofs.Common.{◌≡◌, ℕ, ◌+◌, ◌<◌, ◌≤◌, Bool, true, false, cond, eqb, ltb, List, [], ◌∷◌, ◌++◌, length, take, Some, None, Option, sym, refl, ap, ◌∙◌, arith, ltb-false, Bor, MatchOption}
+use Rattle.std.proofs.lemmas.List.{take_all}
+use Rattle.std.proofs.lemmas.List.Recursion.{is_position_or_len}
+use Rattle.std.proofs.lemmas.Bool.{cond-true, cond-false, cond_both}
+use Rattle.std.specs.List.{position_or_len}
+use Rattle.std.specs.Option.{unwrap_or}
+use Rattle.text.specs.Parts.{first_part, on_first, parts, lines_of, fields_of}
+use Rattle.text.specs.Lines.{fields_in}
 
-pub part_stop : (b : ℕ) (s : List ℕ) (i : ℕ) → i < length s → get_or s i 0 ≡ b → first_part b (drop i s) ≡ []
-part_stop b s i h e = at_drop_more (first_part b) s i 0 h ∙ cond-true _ _ _ (eq-eqb _ b e)
+-- what stands before the first b
 
-pub part_more : (b : ℕ) (s : List ℕ) (i : ℕ) → i < length s → (get_or s i 0 ≡ b → ⊥) → first_part b (drop i s) ≡ get_or s i 0 ∷ first_part b (drop (i + 1) s)
-part_more b s i h e = at_drop_more (first_part b) s i 0 h ∙ cond-false _ _ _ (ne_eqb _ b e)
+first_long : (b : ℕ) (s : List ℕ) → length (first_part b s) ≡ position_or_len (λ x. eqb x b) s
+first_long b = is_position_or_len (λ s. length (first_part b s)) (λ x. eqb x b) refl (λ x xs. go x xs (eqb x b) refl)
+  where
+    go : (x : ℕ) (xs : List ℕ) (t : Bool) → eqb x b ≡ t → length (first_part b (x ∷ xs)) ≡ cond (eqb x b) 0 (1 + length (first_part b xs))
+    go x xs true e = rw e refl
+    go x xs false e = rw e (omega arith)
 
-module _ (b : ℕ) (last : List (List ℕ)) where
-  -- the first part is what stands before the first b
-  pub parts_more : (s : List ℕ) → length (first_part b s) < length s → parts b last s ≡ take (length (first_part b s)) s ∷ parts b last (drop (length (first_part b s) + 1) s)
-  parts_more [] h = absurd (omega arith)
-  parts_more (c ∷ cs) h = go (parts_more cs) (eqb c b) refl
-    where
-      go : (length (first_part b cs) < length cs → parts b last cs ≡ take (length (first_part b cs)) cs ∷ parts b last (drop (length (first_part b cs) + 1) cs)) → (t : Bool) → eqb c b ≡ t → parts b last (c ∷ cs) ≡ take (length (first_part b (c ∷ cs))) (c ∷ cs) ∷ parts b last (drop (length (first_part b (c ∷ cs)) + 1) (c ∷ cs))
-      go ih true e = rw e refl
-      go ih false e =
-          let k : length (c ∷ first_part b cs) < length (c ∷ cs) = rw e at h in
-          rw e (simp add-one (simp add-one at (ap (on_first c) (ih (omega arith)))))
+first_taken : (b : ℕ) (s : List ℕ) → take (length (first_part b s)) s ≡ first_part b s
+first_taken b [] = refl
+first_taken b (c ∷ cs) = go (first_taken b cs) (eqb c b) refl
+  where
+    go : take (length (first_part b cs)) cs ≡ first_part b cs → (t : Bool) → eqb c b ≡ t → take (length (first_part b (c ∷ cs))) (c ∷ cs) ≡ first_part b (c ∷ cs)
+    go ih true e = rw e refl
+    go ih false e = rw e (ap (λ p. c ∷ p) ih)
 
-pub first_part_le : (b : ℕ) (s : List ℕ) → length (first_part b s) ≤ length s
+first_part_le : (b : ℕ) (s : List ℕ) → length (first_part b s) ≤ length s
 first_part_le b [] = omega arith
 first_part_le b (c ∷ cs) = cond_both (eqb c b) [] (c ∷ first_part b cs) (λ p. length p ≤ length (c ∷ cs)) (λ _. omega arith) (λ _. omega (arith, first_part_le b cs))
+
+-- the first b, as a search finds it
+abbrev pub found : ℕ → List ℕ → Option ℕ
+found b s = cond (ltb (position_or_len (λ x. eqb x b) s) (length s)) (Some (position_or_len (λ x. eqb x b) s)) None
+
+pub first_found : (b : ℕ) (s : List ℕ) (n : ℕ) → Some n ≡ found b s → take n s ≡ first_part b s
+first_found b s n e = go (ltb (position_or_len (λ x. eqb x b) s) (length s)) refl
+  where
+    go : (t : Bool) → ltb (position_or_len (λ x. eqb x b) s) (length s) ≡ t → take n s ≡ first_part b s
+    go true t =
+        let q : Some n ≡ Some (position_or_len (λ x. eqb x b) s) = e ∙ cond-true _ _ _ t in
+        let p : n ≡ position_or_len (λ x. eqb x b) s = cc in
+        ap (λ k. take k s) (p ∙ sym (first_long b s)) ∙ first_taken b s
+    go false t = let q : ◌≡◌ {A = Option ℕ} (Some n) None = e ∙ cond-false _ _ _ t in grind arith
+
+pub first_missing : (b : ℕ) (s : List ℕ) → None ≡ found b s → s ≡ first_part b s
+first_missing b s e = go (ltb (position_or_len (λ x. eqb x b) s) (length s)) refl
+  where
+    go : (t : Bool) → ltb (position_or_len (λ x. eqb x b) s) (length s) ≡ t → s ≡ first_part b s
+    go true t = let q : ◌≡◌ {A = Option ℕ} None (Some (position_or_len (λ x. eqb x b) s)) = e ∙ cond-true _ _ _ t in grind arith
+    go false t = sym (take_all (length (first_part b s)) s (omega (arith, first_long b s, ltb-false _ _ t))) ∙ first_taken b s
+
+-- the first part, and those after the b that follows it
+parts_more : (b : ℕ) (last : List (List ℕ)) (s r : List ℕ) → s ≡ first_part b s ++ b ∷ r → parts b last s ≡ first_part b s ∷ parts b last r
+parts_more b last [] r e = let k = ap length e in absurd (omega arith)
+parts_more b last (c ∷ cs) r e = go (parts_more b last cs r) (eqb c b) refl
+  where
+    go : (cs ≡ first_part b cs ++ b ∷ r → parts b last cs ≡ first_part b cs ∷ parts b last r) → (t : Bool) → eqb c b ≡ t → parts b last (c ∷ cs) ≡ first_part b (c ∷ cs) ∷ parts b last r
+    go ih true t =
+        let k : c ∷ cs ≡ b ∷ r = rw t at e in
+        let q : cs ≡ r = cc in
+        rw t (ap (λ x. [] ∷ parts b last x) q)
+    go ih false t =
+        let k : c ∷ cs ≡ c ∷ (first_part b cs ++ b ∷ r) = rw t at e in
+        let q : cs ≡ first_part b cs ++ b ∷ r = cc in
+        rw t (ap (on_first c) (ih q))
 
 -- no b, so that there is one part
 pub parts_last : (b : ℕ) (s : List ℕ) → length (first_part b s) ≡ length s → parts b ([] ∷ []) s ≡ s ∷ []
@@ -46,17 +85,6 @@ some-parts b (c ∷ cs) = cond_both (eqb c b) ([] ∷ parts b ([] ∷ []) cs) (o
     some [] = omega arith
     some (p ∷ ps) = omega arith
 
-length-on_first : (c : ℕ) (ps : List (List ℕ)) → 0 < length ps → length (on_first c ps) ≡ length ps
-length-on_first c [] h = absurd (omega arith)
-length-on_first c (p ∷ ps) h = refl
-
-module _ (b : ℕ) (s : List ℕ) (i : ℕ) (h : i < length s) where
-  pub count_at : get_or s i 0 ≡ b → length (parts b ([] ∷ []) (drop i s)) ≡ length (parts b ([] ∷ []) (drop (i + 1) s)) + 1
-  count_at e = ap length (at_drop_more (parts b ([] ∷ [])) s i 0 h ∙ cond-true _ _ _ (eq-eqb _ b e)) ∙ sym (add-one _)
-
-  pub count_off : (get_or s i 0 ≡ b → ⊥) → length (parts b ([] ∷ []) (drop i s)) ≡ length (parts b ([] ∷ []) (drop (i + 1) s))
-  count_off e = ap length (at_drop_more (parts b ([] ∷ [])) s i 0 h ∙ cond-false _ _ _ (ne_eqb _ b e)) ∙ length-on_first _ _ (some-parts b (drop (i + 1) s))
-
 parts_whole : (b : ℕ) (s : List ℕ) → length (first_part b s) ≡ length s → 0 < length s → parts b [] s ≡ s ∷ []
 parts_whole b [] h some = absurd (omega arith)
 parts_whole b (c ∷ []) h some = go (eqb c b) refl
@@ -72,28 +100,34 @@ parts_whole b (c ∷ d ∷ cs) h some = go (parts_whole b (d ∷ cs)) (eqb c b) 
         let k : length (c ∷ first_part b (d ∷ cs)) ≡ length (c ∷ d ∷ cs) = rw e at h in
         rw e (ap (on_first c) (ih (omega arith) (omega arith)))
 
--- the first line, and those after it
-lines_more : (s : List ℕ) (n : ℕ) → 0 < length s → n ≡ length (first_part 10 s) → lines_of s ≡ take n s ∷ lines_of (drop (n + 1) s)
+-- the line that is cut off at the first byte 10, and those after it
+pub line_first : (s p : List ℕ) (r : Option (Bor (List ℕ))) (d : Bor (List ℕ)) → 0 < length s → p ≡ first_part 10 s → MatchOption r (s ≡ p) (λ x. s ≡ p ++ 10 ∷ x.now) → d.now ≡ [] → lines_of s ≡ p ∷ lines_of (unwrap_or r d).now
 unfolding lines_of
-lines_more s n some e =
-    subst (λ k. lines_of s ≡ take k s ∷ lines_of (drop (k + 1) s)) (sym e)
-    (⊎_elim
-    (λ (h : length (first_part 10 s) < length s). parts_more 10 [] s h)
-    (λ (h : length s ≤ length (first_part 10 s)).
-    let q : length (first_part 10 s) ≡ length s = omega (arith, first_part_le 10 s) in
-    parts_whole 10 s q some ∙ ap (λ l. l ∷ []) (sym (take_all (length (first_part 10 s)) s h)) ∙ ap (λ l. take (length (first_part 10 s)) s ∷ lines_of l) (sym (drop_all (length (first_part 10 s) + 1) s (omega arith))))
-    (cases_lt (length (first_part 10 s)) (length s)))
+line_first s p None d some first cut none = parts_whole 10 s (ap length (sym first ∙ sym cut)) some ∙ (λ i. cut i ∷ parts 10 [] (sym none i))
+line_first s p (Some x) d some first cut none = parts_more 10 [] s x.now (cut ∙ ap (λ q. q ++ 10 ∷ x.now) first) ∙ ap (λ q. q ∷ parts 10 [] x.now) (sym first)
 
--- the line at `at`, as the slices have it
-pub lines_at : (text : List ℕ) (at m : ℕ) → at < length text → m ≡ length (first_part 10 (take (length text - at) (drop at text))) → lines_of (drop at text) ≡ take (m - 0) (take (length text - at) (drop at text)) ∷ lines_of (drop (at + m + 1) text)
-lines_at text at m h e =
-    let same : m - 0 ≡ m = omega arith in
-    let next : at + (m + 1) ≡ at + m + 1 = omega arith in
-    let cut = take_rest text at in
-    lines_more (drop at text) m (simp length-drop (omega arith)) (e ∙ ap (λ t. length (first_part 10 t)) cut)
-    ∙ ap (λ l. take m (drop at text) ∷ lines_of l) (drop-drop (m + 1) at text ∙ ap (λ j. drop j text) next)
-    ∙ ap (λ t. t ∷ lines_of (drop (at + m + 1) text)) (sym (ap (λ t. take (m - 0) t) cut ∙ ap (λ j. take j (drop at text)) same))
+-- the field that is cut off at the first byte 9, and those after it
+pub field_first : (s p : List ℕ) (r : Option (Bor (List ℕ))) → p ≡ first_part 9 s → MatchOption r (s ≡ p) (λ x. s ≡ p ++ 9 ∷ x.now) → fields_of s ≡ p ∷ fields_in r
+field_first s p None first cut = parts_last 9 s (ap length (sym first ∙ sym cut)) ∙ ap (λ q. q ∷ []) cut
+field_first s p (Some x) first cut = parts_more 9 ([] ∷ []) s x.now (cut ∙ ap (λ q. q ++ 9 ∷ x.now) first) ∙ ap (λ q. q ∷ fields_of x.now) (sym first)
 
 pub lines_none : lines_of [] ≡ []
 unfolding lines_of
 lines_none = refl
+
+pub no_lines : (s : List ℕ) → length s ≡ 0 → lines_of s ≡ []
+no_lines [] e = lines_none
+no_lines (c ∷ cs) e = absurd (omega arith)
+
+-- each line has a byte, or an end
+few_parts : (b : ℕ) (s : List ℕ) → length (parts b [] s) ≤ length s
+few_parts b [] = omega arith
+few_parts b (c ∷ cs) = cond_both (eqb c b) ([] ∷ parts b [] cs) (on_first c (parts b [] cs)) (λ p. length p ≤ length (c ∷ cs)) (λ _. omega (arith, few_parts b cs)) (λ _. some (parts b [] cs) (few_parts b cs))
+  where
+    some : (ps : List (List ℕ)) → length ps ≤ length cs → length (on_first c ps) ≤ length (c ∷ cs)
+    some [] l = omega arith
+    some (p ∷ ps) l = omega arith
+
+pub few_lines : (s : List ℕ) → length (lines_of s) ≤ length s
+unfolding lines_of
+few_lines s = few_parts 10 s

@@ -1,11 +1,14 @@
 -- What a field says.
-use Rattle.std.specs.Prelude.{ℕ, ◌+◌, cond, ◌&&◌, List, [], ◌∷◌, map, length, Some, None, Option, ◌==◌, nat_le, nat_lt, slice_index_or}
-use Rattle.std.specs.Option.{option_map}
+use Rattle.std.specs.Prelude.{ℕ, ◌+◌, Bool, false, cond, ◌&&◌, List, [], ◌∷◌, map, length, Some, None, Err, Option, Result, ◌==◌, nat_le, nat_lt, slice_index_or}
+use Rattle.std.specs.Option.{option_map, ok_or}
+use Rattle.std.specs.Str.{bytes_eq}
 use Rattle.text.specs.Number.{number_of}
 use Rattle.text.specs.Parts.{fields_of}
 use Rattle.text.specs.Words.{named}
 use Rattle.text.specs.declared.fields.Location.{Location}
 use Rattle.text.specs.declared.fields.Location.TheVariants.{Register, Slot}
+use Rattle.text.specs.declared.fields.Fault.{Fault}
+use Rattle.text.specs.declared.fields.Fault.TheVariants as fault
 use Rattle.text.specs.declared.fields.Field.{Field}
 use Rattle.text.specs.declared.fields.Field.TheVariants.{Word, Number, Location as Located}
 
@@ -75,6 +78,12 @@ word_in spelling words (word bs) = named spelling words bs
 word_in spelling words (number n) = None
 word_in spelling words (location l) = None
 
+-- does a field say this word?
+abbrev pub says : List ℕ → Shape → Bool
+says w (word bs) = bytes_eq bs w
+says w (number n) = false
+says w (location l) = false
+
 -- the i-th of what the fields say
 abbrev pub at : List Shape → ℕ → Shape
 at fs i = slice_index_or fs i (word [])
@@ -83,3 +92,22 @@ at fs i = slice_index_or fs i (word [])
 abbrev pub and_then : {A B : Type 0} → Option A → (A → Option B) → Option B
 and_then None f = None
 and_then (Some a) f = f a
+
+-- the fields of a heading after its title, of which there are three
+abbrev pub after_title : List ℕ → List Shape → Option (Shape × Shape × Shape)
+after_title title fs = cond (length fs == 4 && says title (at fs 0)) (Some (at fs 1, at fs 2, at fs 3)) None
+
+-- the word that a line begins with
+abbrev pub first_word : {W : Type 0} → (W → List ℕ) → List W → List Shape → Option W
+first_word spelling words [] = None
+first_word spelling words (f ∷ fs) = word_in spelling words f
+
+-- a line that begins with one of the words: the word is known, then it has its count of fields, then they are right
+module _ {W A : Type 0} (spelling : W → List ℕ) (words : List W) (arity : W → ℕ) (operands : W → List Shape → Option A) where
+  abbrev pub by_word : Option W → List Shape → Result A Fault
+  by_word None fs = Err fault.Word
+  by_word (Some w) fs = cond (length fs == arity w) (ok_or (operands w fs) fault.Field) (Err fault.Word)
+
+  abbrev pub by_first : List Shape → Result A Fault
+  by_first [] = Err fault.Word
+  by_first (f ∷ fs) = by_word (word_in spelling words f) fs

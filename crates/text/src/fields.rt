@@ -1,14 +1,16 @@
 // A field of a line: a word, a number or a location. It borrows the text and keeps its place.
-ghost use Rattle.std.specs.Prelude.{◌≡◌, ◌+◌, ◌^◌, ◌<◌, ◌≤◌, map, length, take, IfSome};
-ghost use Rattle.text.specs.Fields.{location_of, shape_of, shape, bytes, start_of, shapes_of, starts, number_between, number_below, word_in};
+ghost use Rattle.std.specs.Prelude.{◌≡◌, ◌+◌, ◌<◌, ◌≤◌, map, length, drop, Some, IsSome, IfSome, IfNone};
+ghost use Rattle.std.specs.Option.{option_map};
+ghost use Rattle.text.specs.Fields.{location_of, shape_of, shape, bytes, start_of, shapes_of, starts, number_between, number_below, word_in, says, after_title, first_word};
 ghost use Rattle.text.specs.Parts.{fields_of};
 
+use crate::lines::{Fields, Line};
 use crate::number::read_number;
-use crate::parts::field_len;
 use crate::words::{Spelled, find_word};
+use arrayvec::ArrayVec;
 
 // A register or a slot, as a text names it.
-#[derive(Clone, Copy)]
+#[derive(Clone, Copy, PartialEq, Eq)]
 pub enum Location {
     Register(u64),
     Slot(u64),
@@ -37,19 +39,13 @@ fn read_location(s: &[u8]) -> Option<Location>
     ensures { result ≡ location_of s.now }
 {
     match s {
-        [b'r', rest @ ..] => match read_number(rest) {
-            Some(n) => Some(Location::Register(n)),
-            None => None,
-        },
-        [b's', rest @ ..] => match read_number(rest) {
-            Some(n) => Some(Location::Slot(n)),
-            None => None,
-        },
+        [b'r', rest @ ..] => read_number(rest).map(Location::Register),
+        [b's', rest @ ..] => read_number(rest).map(Location::Slot),
         _ => None,
     }
 }
 
-fn read_field<'a>(text: &'a [u8], start: usize) -> Field<'a>
+pub(crate) fn read_field<'a>(text: &'a [u8], start: usize) -> Field<'a>
     ensures shape { shape result ≡ shape_of text.now }
     ensures bytes { bytes result ≡ text.now }
     ensures place { start_of result ≡ start }
@@ -67,83 +63,106 @@ fn read_field<'a>(text: &'a [u8], start: usize) -> Field<'a>
     }
 }
 
-pub fn count_fields(line: &[u8]) -> usize
-    ensures { result ≡ length (fields_of line.now) }
-{
-    let mut n = 1;
-    for b in line {
-        if *b == b'\t' {
-            n += 1;
+// What the unused places of a row hold.
+impl<'a> Default for Field<'a> {
+    fn default() -> Field<'a> {
+        Field::Word {
+            text: &[],
+            start: 0,
         }
     }
-    n
 }
 
-// Puts the fields of `line`, which stands at `start` in its text, into `row`; answers how many there are.
-pub fn read_fields<'a>(row: &mut [Field<'a>], line: &'a [u8], start: usize) -> usize
-    requires room { length (fields_of line.now) ≤ length row.old }
-    requires within { start + length line.now < 2 ^ 32 }
-    ensures count { result ≡ length (fields_of line.now) }
-    ensures shapes { map shape (take result row.new) ≡ shapes_of line.now }
-    ensures bytes { map bytes (take result row.new) ≡ fields_of line.now }
-    ensures starts { map start_of (take result row.new) ≡ starts start (fields_of line.now) }
-{
-    let mut rest = line;
-    let mut at = start;
-    let mut count = 0;
-    loop {
-        let n = field_len(rest);
-        row[count] = read_field(&rest[0..n], at);
-        count += 1;
-        if n == rest.len() {
-            return count;
+impl<'a> Field<'a> {
+    // The number that the field says, where it lies from `low` to `high`.
+    pub fn number_between(&self, low: u64, high: u64) -> Option<u64>
+        ensures value { result ≡ number_between low high (shape self.now) }
+        ensures low { IfSome result (λ n. low ≤ n) }
+        ensures high { IfSome result (λ n. n ≤ high) }
+    {
+        match self {
+            Field::Number { value, .. } if low <= *value && *value <= high => Some(*value),
+            _ => None,
         }
-        at += n + 1;
-        rest = &rest[n + 1..];
     }
-}
 
-// The number that a field says, where it lies from `low` to `high`.
-pub fn find_between(f: &Field, low: u64, high: u64) -> Option<u64>
-    ensures value { result ≡ number_between low high (shape f.now) }
-    ensures low { IfSome result (λ n. low ≤ n) }
-    ensures high { IfSome result (λ n. n ≤ high) }
-{
-    match f {
-        Field::Number { value, .. } => {
-            if low <= *value && *value <= high {
-                Some(*value)
-            } else {
-                None
-            }
+    // The number that the field says, where it lies below `bound`.
+    pub fn number_below(&self, bound: u64) -> Option<u64>
+        ensures value { result ≡ number_below bound (shape self.now) }
+        ensures below { IfSome result (λ n. n < bound) }
+    {
+        match self {
+            Field::Number { value, .. } if *value < bound => Some(*value),
+            _ => None,
         }
-        _ => None,
+    }
+
+    // The first of `words` that the field says.
+    pub fn word_in<W: Spelled>(&self, words: &[W]) -> Option<W>
+        ensures { result ≡ word_in W.spelling words.now (shape self.now) }
+    {
+        match self {
+            Field::Word { text, .. } => find_word(text, words),
+            _ => None,
+        }
+    }
+
+    // Whether the field says this word.
+    pub fn says(&self, word: &[u8]) -> bool
+        ensures { result ≡ says word.now (shape self.now) }
+    {
+        match self {
+            Field::Word { text, .. } => *text == word,
+            _ => false,
+        }
     }
 }
 
-// The number that a field says, where it lies below `bound`.
-pub fn find_below(f: &Field, bound: u64) -> Option<u64>
-    ensures value { result ≡ number_below bound (shape f.now) }
-    ensures below { IfSome result (λ n. n < bound) }
-{
-    match f {
-        Field::Number { value, .. } => { if *value < bound { Some(*value) } else { None } }
-        _ => None,
+impl<'a> Line<'a> {
+    // The fields of the line, where there are at most `N`.
+    pub fn fields<const N: usize>(&self) -> Option<ArrayVec<Field<'a>, N>>
+        ensures few { IfNone result (N < length (fields_of self.now.bytes.now)) }
+        ensures shapes { IfSome result (λ row. map shape row.items ≡ shapes_of self.now.bytes.now) }
+        ensures bytes { IfSome result (λ row. map bytes row.items ≡ fields_of self.now.bytes.now) }
+        ensures starts { IfSome result (λ row. map start_of row.items ≡ starts self.now.start (fields_of self.now.bytes.now)) }
+    {
+        let mut row = ArrayVec::new();
+        let fields = Fields {
+            rest: Some(self.bytes),
+            start: self.start,
+        };
+        row.extend(fields).ok()?;
+        Some(row)
     }
-}
 
-// The first of `words` that a field says.
-pub fn find_named<W: Spelled>(f: &Field, words: &[W]) -> Option<W>
-    ensures { result ≡ word_in W.spelling words.now (shape f.now) }
-{
-    match f {
-        Field::Word { text, .. } => find_word(text, words),
-        _ => None,
+    // The word that the line begins with, and the fields after it, where there are at most `N` fields in all.
+    pub fn split_word<W: Spelled, const N: usize>(
+        &self,
+        words: &[W],
+    ) -> Option<(W, ArrayVec<Field<'a>, N>)>
+        ensures few { IfNone result (IsSome (first_word W.spelling words.now (shapes_of self.now.bytes.now)) → N < length (fields_of self.now.bytes.now)) }
+        ensures word { IfSome result (λ r. first_word W.spelling words.now (shapes_of self.now.bytes.now) ≡ Some r.0) }
+        ensures rest { IfSome result (λ r. map shape r.1.items ≡ drop 1 (shapes_of self.now.bytes.now)) }
+    {
+        let mut fields = self.fields::<N>()?;
+        let word = fields.pop_at(0)?.word_in(words)?;
+        Some((word, fields))
+    }
+
+    // The fields of a heading after its title, of which there are three.
+    pub fn after_title(&self, title: &[u8]) -> Option<(Field<'a>, Field<'a>, Field<'a>)>
+        ensures { option_map (λ r. (shape r.0, shape r.1, shape r.2)) result ≡ after_title title.now (shapes_of self.now.bytes.now) }
+    {
+        let fields = self.fields::<4>()?;
+        match fields.as_slice() {
+            [word, a, b, c] if word.says(title) => Some((*a, *b, *c)),
+            _ => None,
+        }
     }
 }
 
 // What is wrong with a line: its word or its count of fields, or another field.
-#[derive(Clone, Copy)]
+#[derive(Clone, Copy, PartialEq, Eq)]
 pub enum Fault {
     Word,
     Field,

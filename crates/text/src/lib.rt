@@ -2,6 +2,7 @@
 
 // What both kinds of text are made of: lines, fields, numbers, locations and words.
 pub mod fields;
+pub mod lines;
 pub mod number;
 pub mod parts;
 pub mod put;

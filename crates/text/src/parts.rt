@@ -1,60 +1,20 @@
 // A text is cut into lines, and a line into fields, at a separator byte.
-ghost use Rattle.std.specs.Prelude.{◌≡◌, ◌+◌, ◌<◌, ◌≤◌, ◌∷◌, length, drop};
+ghost use Rattle.std.specs.Prelude.{◌≡◌, ◌∷◌, ◌++◌, ◌↔◌, true, length, IsSome, IfSome, MatchOption};
 ghost use Rattle.text.specs.Parts.{first_part, lines_of, sized};
+ghost use Rattle.text.specs.Lines.{lines_left, line_count, LineSteps, field_count, FieldSteps};
 
-// How many bytes stand before the first `sep`, all where there is none.
-fn part_len(s: &[u8], sep: u8) -> usize
-    ensures within { result ≤ length s.now }
-    ensures long { result ≡ length (first_part sep s.now) }
+use crate::fields::{Field, read_field};
+use crate::lines::{Fields, Line, Lines};
+
+// What stands before the first `sep`, and what stands after it, if there is one.
+fn cut(s: &[u8], sep: u8) -> (&[u8], Option<&[u8]>)
+    ensures first { result.0.now ≡ first_part sep s.now }
+    ensures rest { MatchOption result.1 (s.now ≡ result.0.now) (λ r. s.now ≡ result.0.now ++ sep ∷ r.now) }
 {
-    for (i, b) in s.iter().enumerate() {
-        if *b == sep {
-            return i;
-        }
+    match s.iter().position(|b| *b == sep) {
+        Some(n) => (&s[..n], Some(&s[n + 1..])),
+        None => (s, None),
     }
-    s.len()
-}
-
-// How many bytes of a line stand before its end.
-fn line_len(s: &[u8]) -> usize
-    ensures within { result ≤ length s.now }
-    ensures long { result ≡ length (first_part 10 s.now) }
-{
-    part_len(s, b'\n')
-}
-
-// How many bytes of a line stand before the end of its first field.
-pub(crate) fn field_len(s: &[u8]) -> usize
-    ensures within { result ≤ length s.now }
-    ensures long { result ≡ length (first_part 9 s.now) }
-{
-    part_len(s, b'\t')
-}
-
-// The line that begins at `at`, without its ending, and where the next one begins.
-pub fn next_line(text: &[u8], at: usize) -> (&[u8], usize)
-    requires { at < length text.now }
-    ensures cut { lines_of (drop at text.now) ≡ result.0.now ∷ lines_of (drop result.1 text.now) }
-    ensures long { at + length result.0.now < result.1 }
-    ensures within { result.1 ≤ length text.now + 1 }
-{
-    let rest = &text[at..];
-    let n = line_len(rest);
-    (&rest[0..n], at + n + 1)
-}
-
-// How many lines there are from `at` on.
-pub fn count_lines(text: &[u8], at: usize) -> usize
-    ensures { result ≡ length (lines_of (drop at text.now)) }
-{
-    let mut at = at;
-    let mut n = 0;
-    while at < text.len() {
-        let (_, next) = next_line(text, at);
-        at = next;
-        n += 1;
-    }
-    n
 }
 
 // Whether a text has 1 to 32,768 bytes, the last of which ends a line.
@@ -63,4 +23,73 @@ pub fn is_sized(text: &[u8]) -> bool
 {
     let n = text.len();
     n >= 1 && n <= 32768 && text[n - 1] == b'\n'
+}
+
+impl<'a> Lines<'a> {
+    // The lines of a text that is sized.
+    pub fn of(text: &'a [u8]) -> Option<Self>
+        ensures sized { IsSome result ↔ (sized text.now ≡ true) }
+        ensures lines { IfSome result (λ l. lines_left l ≡ lines_of text.now) }
+        ensures start { IfSome result (λ l. l.start ≡ 0) }
+        ensures number { IfSome result (λ l. l.number ≡ 1) }
+    {
+        if !is_sized(text) {
+            return None;
+        }
+        Some(Lines {
+            rest: text,
+            start: 0,
+            number: 1,
+        })
+    }
+
+    // The number of the first line that is left.
+    pub fn number(&self) -> usize
+        ensures { result ≡ self.now.number }
+    {
+        self.number
+    }
+}
+
+impl<'a> Iterator for Lines<'a> {
+    type Item = Line<'a>;
+
+    ghost next_gives = { LineSteps };
+
+    ghost remaining = { line_count };
+
+    fn next(&mut self) -> Option<Line<'a>> {
+        if self.rest.is_empty() {
+            return None;
+        }
+        let (bytes, rest) = cut(self.rest, b'\n');
+        let line = Line {
+            bytes,
+            start: self.start,
+            number: self.number,
+        };
+        let rest = rest.unwrap_or(&[]);
+        *self = Lines {
+            rest,
+            start: self.start + (self.rest.len() - rest.len()),
+            number: self.number + 1,
+        };
+        Some(line)
+    }
+}
+
+impl<'a> Iterator for Fields<'a> {
+    type Item = Field<'a>;
+
+    ghost next_gives = { FieldSteps };
+
+    ghost remaining = { field_count };
+
+    fn next(&mut self) -> Option<Field<'a>> {
+        let (text, rest) = cut(self.rest?, b'\t');
+        let field = read_field(text, self.start);
+        self.start += text.len() + 1;
+        self.rest = rest;
+        Some(field)
+    }
 }

@@ -14,10 +14,5 @@ pub trait Spelled: Copy {
 pub fn find_word<W: Spelled>(text: &[u8], words: &[W]) -> Option<W>
     ensures { result ≡ named W.spelling words.now text.now }
 {
-    for w in words {
-        if text == w.spell() {
-            return Some(*w);
-        }
-    }
-    None
+    words.iter().find(|w| text == w.spell()).copied()
 }

@@ -1,9 +1,16 @@
-use Rattle.std.proofs.Common.{◌∙◌, arith}
-use Rattle.source.proofs.OneLine.{node_many, node_row}
+use Rattle.std.proofs.Common.{map, Some, ap, ◌∙◌}
+use Rattle.text.specs.Fields.{shape, by_word}
+use Rattle.source.specs.Words.{opcode_name, opcodes}
+use Rattle.source.specs.Reading.{arity, operands_of}
+use Rattle.source.proofs.OneLine.{node_refused, node_known}
 use Rattle.source.proofs.lines.read_node.Goals as goal
 
-pub returns-then-count_fields-gt6 : goal.returns-then-count_fields-gt6
-returns-then-count_fields-gt6 c = node_many c.args.h c.args.line.now (omega arith)
+pub returns-in_default : goal.returns-in_default
+unfolding opcodes
+returns-in_default c = node_refused c.args.h c.args.line.now.bytes.now c.in_default.ensures.few
 
 pub returns : goal.returns
-returns c = c.read_by_first.ensures ∙ node_row c.args.h c.args.line.now c.read_fields-n.new.row c.read_fields-n.result c.read_fields-n.ensures.shapes
+unfolding opcodes
+returns c =
+    c.read_operands.ensures ∙ ap (λ fs. by_word opcode_name opcodes arity (operands_of c.args.h) (Some c.in-Some.opcode) fs) (ap (map shape) c.as_slice.ensures.value ∙ c.in-Some.ensures.rest)
+    ∙ node_known c.args.h c.args.line.now.bytes.now c.in-Some.opcode c.in-Some.ensures.word

@@ -19,10 +19,7 @@ returns c =
       entry = (ap (λ x. x.entry) same ∙ e.entry) j;
       moves = (ap moves_in same ∙ e.moves) j;
       rows = (ap rows_in same ∙ e.rows) j;
-      main = s.main;
-      ins = (c.begin_node.ensures.ins ∙ ap length e.moves) j;
-      outs = s.outs;
-      alts = s.alts;
+      row = s.row;
     }))
-    ∙ opened_start t.heading t.entry (moves_in t) (rows_in t) r.main s.main r.ins r.outs r.alts s.outs s.alts
+    ∙ opened_start t.heading t.entry (moves_in t) (rows_in t) r.row s.row (c.begin_node.ensures.ins ∙ ap length e.moves)
     ∙ ap opened (sym (staged r Start c.requires))

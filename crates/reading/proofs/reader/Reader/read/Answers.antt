@@ -1,43 +1,39 @@
-use Rattle.std.proofs.Common.{◌≡◌, true, map, drop, Some, None, sym, ap, ◌∙◌, arith}
-use Rattle.text.specs.Parts.{lines_of, fields_of, sized}
+use Rattle.std.proofs.Common.{◌≡◌, ◌≤◌, map, None, MatchOption, sym, ap, ◌∙◌, arith, rules}
+use Rattle.text.specs.Parts.{fields_of}
+use Rattle.text.specs.Fields.{shapes_of}
+use Rattle.text.specs.Lines.{lines_left}
+use Rattle.allocation.specs.Headings.{heading_of}
 use Rattle.reading.specs.Reading.{run}
-use Rattle.reading.proofs.Runs.{not-sized, is_headed}
+use Rattle.reading.proofs.Runs.{not-sized, no_heading, with_heading}
 use Rattle.reading.proofs.ReadLaws.{writes_back, reads_well}
 use Rattle.reading.proofs.reader.Reader.read.Goals as goal
 
-pub returns-then-not-is_sized : goal.returns-then-not-is_sized
-returns-then-not-is_sized c = record { read = not-sized c.args.parameters c.args.nodes c.args.text.now (sym c.is_sized.ensures ∙ c.if-not-is_sized.true); heading = tt; formed = tt; text = tt; moves = tt }
+pub returns-in_default-clause-read : goal.returns-in_default-clause-read
+returns-in_default-clause-read c = not-sized c.args.parameters c.args.nodes c.args.text.now (search rules)
 
-pub returns-in_default : goal.returns-in_default
-returns-in_default c =
-    let good : sized c.args.text.now ≡ true = sym c.is_sized.ensures ∙ c.if-not-is_sized.false in
-    record { read = is_headed c.args.parameters c.args.nodes c.args.text.now good c.next_line-next.ensures.cut None c.in_default.ensures.value; heading = tt; formed = tt; text = tt; moves = tt }
+pub returns-in_default-and_then-clause-read : goal.returns-in_default-and_then-clause-read
+returns-in_default-and_then-clause-read c =
+    let head : MatchOption c.next.result (c.and_then.result ≡ None) (λ l. c.and_then.result ≡ heading_of c.args.parameters c.args.nodes (shapes_of l.bytes.now)) = search rules in
+    no_heading c.args.parameters c.args.nodes c.args.text.now (search rules) c.in-Some.lines c.next.new.self c.in-Some.ensures.lines c.next.result c.and_then.result c.next.ensures.steps head c.in_default-and_then.is
 
-pub returns-in-Ok : goal.returns-in-Ok
-returns-in-Ok c =
-    let good : sized c.args.text.now ≡ true = sym c.is_sized.ensures ∙ c.if-not-is_sized.false in
-    let rest = map fields_of (lines_of (drop c.next_line-next.result.1 c.args.text.now)) in
-    let is =
-    is_headed c.args.parameters c.args.nodes c.args.text.now good c.next_line-next.ensures.cut (Some c.in-Some.heading) c.in-Some.ensures.value
-    ∙ ap (λ s. run c.args.nodes rest s 2) (sym c.restart.ensures) ∙ c.in-Ok.ensures.lines in
+pub returns-in_err-read_lines-clause-read : goal.returns-in_err-read_lines-clause-read
+returns-in_err-read_lines-clause-read c =
+    let head : MatchOption c.next.result (c.and_then.result ≡ None) (λ l. c.and_then.result ≡ heading_of c.args.parameters c.args.nodes (shapes_of l.bytes.now)) = search rules in
+    let e = with_heading c.args.parameters c.args.nodes c.args.text.now (search rules) c.in-Some.lines c.next.new.self c.in-Some.ensures.lines c.next.result c.and_then.result c.in-Some-and_then.heading c.next.ensures.steps head c.in-Some-and_then.is c.in-Some.ensures.number
+    ∙ ap (λ s. run c.args.nodes (map fields_of (lines_left c.next.new.self)) s c.next.new.self.number) (sym c.restart.ensures) ∙ c.in_err-read_lines.ensures.lines in
+    search rules
+
+pub returns : goal.returns
+returns c =
+    let head : MatchOption c.next.result (c.and_then.result ≡ None) (λ l. c.and_then.result ≡ heading_of c.args.parameters c.args.nodes (shapes_of l.bytes.now)) = search rules in
+    let e = with_heading c.args.parameters c.args.nodes c.args.text.now (search rules) c.in-Some.lines c.next.new.self c.in-Some.ensures.lines c.next.result c.and_then.result c.in-Some-and_then.heading c.next.ensures.steps head c.in-Some-and_then.is c.in-Some.ensures.number
+    ∙ ap (λ s. run c.args.nodes (map fields_of (lines_left c.next.new.self)) s c.next.new.self.number) (sym c.restart.ensures) ∙ c.in_ok-read_lines.ensures.lines in
+    let registers : c.in-Some-and_then.heading.registers ≤ 16 = search rules in
+    let slots : c.in-Some-and_then.heading.slots ≤ 48 = search rules in
     record {
-      read = is;
+      read = e;
       heading = c.heading.ensures;
-      formed = reads_well c.args.parameters c.args.nodes c.args.text.now _ is;
-      text = writes_back c.args.parameters c.args.nodes c.args.text.now _ is;
-      moves = c.in-Ok.ensures.moves c.in-Some.heading c.restart.ensures (omega (arith, c.in-Some.ensures.registers, c.in-Some.ensures.slots));
-    }
-
-pub returns-in-Err : goal.returns-in-Err
-returns-in-Err c =
-    let good : sized c.args.text.now ≡ true = sym c.is_sized.ensures ∙ c.if-not-is_sized.false in
-    let rest = map fields_of (lines_of (drop c.next_line-next.result.1 c.args.text.now)) in
-    record {
-      read =
-          is_headed c.args.parameters c.args.nodes c.args.text.now good c.next_line-next.ensures.cut (Some c.in-Some.heading) c.in-Some.ensures.value
-          ∙ ap (λ s. run c.args.nodes rest s 2) (sym c.restart.ensures) ∙ c.in-Err.ensures.lines;
-      heading = tt;
-      formed = tt;
-      text = tt;
-      moves = tt;
+      formed = reads_well c.args.parameters c.args.nodes c.args.text.now _ e;
+      text = writes_back c.args.parameters c.args.nodes c.args.text.now _ e;
+      moves = c.in_ok-read_lines.ensures.moves c.in-Some-and_then.heading c.restart.ensures (omega arith);
     }

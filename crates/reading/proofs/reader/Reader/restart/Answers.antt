@@ -7,4 +7,4 @@ use Rattle.reading.proofs.reader.Reader.restart.Goals as goal
 pub returns : goal.returns
 returns c =
     let t = c.start.ensures in
-    state_is _ ∙ (λ j. view (record { heading = t.heading j; stage = Start; entry = t.entry j; moves = t.moves j; rows = t.rows j; main = Skip; ins = 0; outs = 0; alts = 0 }))
+    state_is _ ∙ (λ j. view (record { heading = t.heading j; stage = Start; entry = t.entry j; moves = t.moves j; rows = t.rows j; row = record { main = Skip; ins = 0; outs = 0; alts = 0; end = 0 } }))

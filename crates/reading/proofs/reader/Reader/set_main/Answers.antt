@@ -11,6 +11,6 @@ returns c =
     let t = r.tables in
     let m = c.args.main in
     state_is _
-    ∙ (λ j. view (record { heading = t.heading; stage = c.stage_after-self.ensures.value j; entry = t.entry; moves = moves_in t; rows = rows_in t; main = m; ins = r.ins; outs = c.place-place.ensures.value j; alts = c.place-place.ensures.value j }))
-    ∙ with_main_is t.heading t.entry (moves_in t) (rows_in t) m r.main r.ins r.outs r.alts
+    ∙ (λ j. view (record { heading = t.heading; stage = c.stage_after-self.ensures.value j; entry = t.entry; moves = moves_in t; rows = rows_in t; row = record { main = m; ins = r.row.ins; outs = c.place-place.ensures.value j; alts = c.place-place.ensures.value j; end = c.place-place.ensures.value j } }))
+    ∙ with_main_is t.heading t.entry (moves_in t) (rows_in t) m r.row
     ∙ ap (λ s. with_main s m) (sym (staged r Before c.requires.stage))

@@ -12,8 +12,8 @@ returns c =
     record {
       state =
           state_is _
-          ∙ (λ j. view (record { heading = t.heading; stage = Alternate; entry = t.entry; moves = moves_in t; rows = rows_in t; main = r.main; ins = r.ins; outs = r.outs; alts = c.place-self.ensures.value j }))
-          ∙ turned_branch t.heading t.entry (moves_in t) (rows_in t) r.main r.ins r.outs r.alts
+          ∙ (λ j. view (record { heading = t.heading; stage = Alternate; entry = t.entry; moves = moves_in t; rows = rows_in t; row = record { main = r.row.main; ins = r.row.ins; outs = r.row.outs; alts = c.place-place.ensures.value j; end = c.place-place.ensures.value j } }))
+          ∙ turned_branch t.heading t.entry (moves_in t) (rows_in t) r.row
           ∙ ap turned (sym (staged r Branch c.requires));
       heading = refl;
     }

@@ -1,0 +1,22 @@
+use Rattle.std.proofs.Common.{◌≡◌, ◌<◌, ◌∷◌, length, ap, sym, refl, ◌∙◌, arith, rules}
+use Rattle.std.proofs.lemmas.Bool.Decides.{nat_tests}
+use Rattle.text.specs.Parts.{lines_of}
+use Rattle.text.specs.Lines.{lines_left}
+use Rattle.text.proofs.Splits.{line_first, no_lines}
+use Rattle.text.proofs.parts.LinesIterator.next.Goals as goal
+
+pub returns-then-is_empty-clause-steps : goal.returns-then-is_empty-clause-steps
+returns-then-is_empty-clause-steps c = (no_lines c.args.self.now.rest.now (grind (arith, nat_tests)), refl)
+
+first_left : (c : goal.After-result-1) → lines_left c.args.self.now ≡ c.cut.result.0.now ∷ lines_of c.unwrap_or-rest.result.now
+first_left c =
+    let some : 0 < length c.args.self.now.rest.now = grind (arith, nat_tests) in
+    line_first c.args.self.now.rest.now c.cut.result.0.now c.cut.result.1 _ some c.cut.ensures.first c.cut.ensures.rest refl ∙ ap (λ x. c.cut.result.0.now ∷ lines_of x.now) (sym c.unwrap_or-rest.ensures)
+
+pub returns-clause-steps : goal.returns-clause-steps
+returns-clause-steps c = (first_left c, refl, refl, refl)
+
+pub returns-clause-goes : goal.returns-clause-goes
+returns-clause-goes c =
+    let fewer : length (lines_of c.unwrap_or-rest.result.now) < length (lines_left c.args.self.now) = omega (arith, ap length (first_left c)) in
+    search rules
