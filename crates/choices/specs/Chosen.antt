@@ -1,5 +1,6 @@
 -- Each choice means what the one chosen means.
-use Rattle.std.specs.Prelude.{ℕ, Bool, List, ◌++◌, drop, vec_items}
+use Rattle.std.specs.Prelude.{ℕ, Bool, cond, List, ◌++◌, vec_items, Some, None, codes, Option}
+use Rattle.std.specs.Str.{bytes_eq}
 use Rattle.source.specs.Reading.{Source}
 use Rattle.places.specs.declared.place.Place.{Place}
 use Rattle.places.specs.Places.{homes}
@@ -25,7 +26,7 @@ pub data State : Type 0 where
   Row : List ℕ → State
 
 abbrev pub state_of : WordHost → State
-state_of (host.Script s) = Left (drop s.at (vec_items s.values))
+state_of (host.Script s) = Left s
 state_of (host.Seats r) = Row r.seats
 
 -- a script's state is answered by the rules of scripts, a row by those of seats, and each goes on as one of its own
@@ -39,6 +40,10 @@ chosen_next (Row xs) h a b = Row (seats.next xs h a b)
 
 abbrev pub chosen : Answers State Word
 chosen = record { answer = chosen_answer; next = chosen_next }
+
+-- the name of a placer
+abbrev pub placer_of : List ℕ → Option AnyPlacer
+placer_of bs = cond (bytes_eq bs (codes "colouring")) (Some placer.Colouring) (cond (bytes_eq bs (codes "home")) (Some placer.AllHome) None)
 
 -- the places of a placer: by colouring, or all at home
 abbrev pub places_of : AnyPlacer → Source → (ℕ → ℕ → Bool) → ℕ → List Place

@@ -1,5 +1,7 @@
 // Either placer.
-ghost use Rattle.choices.specs.Chosen.{places_of};
+ghost use Rattle.std.specs.Prelude.{◌≡◌};
+ghost use Rattle.std.specs.Result.{result_ok};
+ghost use Rattle.choices.specs.Chosen.{placer_of, places_of};
 ghost use Rattle.places.specs.Homes.{homes_owed};
 ghost use Rattle.colouring.specs.Consistency.{colouring_owed};
 ghost use Rattle.choices.specs.declared.placer.AnyPlacer.TheVariants.{Colouring, AllHome};
@@ -9,11 +11,30 @@ use places::place::Place;
 use places::placer::{AllHome, Placer};
 use source::heading::Heading;
 use source::node::Node;
+use std::str::FromStr;
 
-#[derive(Clone, Copy)]
+#[derive(Clone, Copy, PartialEq, Eq, Debug)]
 pub enum AnyPlacer {
     Colouring,
     AllHome,
+}
+
+// A word that names no placer.
+#[derive(Clone, Copy, PartialEq, Eq, Debug)]
+pub struct NoPlacer;
+
+impl FromStr for AnyPlacer {
+    type Err = NoPlacer;
+
+    ghost from_str_gives = { λ bs r. result_ok r ≡ placer_of bs };
+
+    fn from_str(s: &str) -> Result<AnyPlacer, NoPlacer> {
+        match s {
+            "colouring" => Ok(AnyPlacer::Colouring),
+            "home" => Ok(AnyPlacer::AllHome),
+            _ => Err(NoPlacer),
+        }
+    }
 }
 
 impl Placer for AnyPlacer {

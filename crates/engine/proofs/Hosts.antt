@@ -8,7 +8,7 @@ use Rattle.allocation.specs.Lines.{main_action, line_of}
 use Rattle.values.specs.Kinds.{Arithmetic}
 use Rattle.values.specs.Hosts.{Answers}
 use Rattle.machine.specs.declared.outcome.Entry.{Entry}
-use Rattle.machine.specs.declared.outcome.Taken.{Taken}
+use Rattle.std.specs.declared.ops.ControlFlow.{ControlFlow}
 use Rattle.machine.specs.declared.outcome.Outcome.{Outcome}
 use Rattle.machine.specs.Machine.{Log, Ending, Progress, goes, ends, after, drive, effect, passed, carried, full, source_step, source_run, start, given, allocated_step, allocated_run, entered}
 
@@ -46,9 +46,9 @@ module _ {V S : Type 0} (K : Arithmetic V) (E : Answers S V) where
     passed_told : (n : ℕ) (told : List (Entry V)) (h : S) (p : Log V S) → Told p → h ≡ tells p.host told → Told (passed n told h p)
     passed_told n told h p is e = e ∙ ap (λ x. tells x told) is ∙ sym (tells_append h₀ p.transcript told)
 
-    carried_told : {M : Type 0} (n : Node) (t : Taken V) (told : List (Entry V)) (h : S) (p : Log V S) (m : M) (then : Bool → M) → Told p → h ≡ tells p.host told → Keeps (carried n t told h p m then)
-    carried_told n (Taken.Edge b) told h p m then is e = passed_told (successor n b) told h p is e
-    carried_told n (Taken.End v) told h p m then is e = passed_told p.node told h p is e
+    carried_told : {M : Type 0} (n : Node) (t : ControlFlow V Bool) (told : List (Entry V)) (h : S) (p : Log V S) (m : M) (then : Bool → M) → Told p → h ≡ tells p.host told → Keeps (carried n t told h p m then)
+    carried_told n (ControlFlow.Continue b) told h p m then is e = passed_told (successor n b) told h p is e
+    carried_told n (ControlFlow.Break v) told h p m then is e = passed_told p.node told h p is e
 
     after_told : {M : Type 0} (g : Progress V S M) (on : Log V S → M → Ending V S M) → Keeps g → ((q : Log V S) (m : M) → Told q → Told (on q m).log) → Told (after g on).log
     after_told (goes q m) on k next = next q m k

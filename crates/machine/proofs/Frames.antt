@@ -1,9 +1,6 @@
 -- Cells of a frame, and moves made one at a time.
-use Rattle.std.proofs.Common.{◌≡◌, ℕ, suc, ◌+◌, ◌-◌, ◌<◌, ◌≤◌, leb, List, [], ◌∷◌, ◌++◌, length, get_or, take, set, is_some, Some, sym, refl, ap, ◌∙◌, ap₂, ⊎_elim, arith}
-use Rattle.std.specs.List.{slice_get}
-use Rattle.std.proofs.lemmas.Option.{slice_get-get_or, slice_get_past}
-use Rattle.std.proofs.lemmas.Bool.{cases_lt, le-leb, lt-leb}
-use Rattle.std.proofs.lemmas.List.{take_more, take_all, length-take-le}
+use Rattle.std.proofs.Common.{◌≡◌, ℕ, suc, ◌+◌, ◌<◌, List, [], ◌∷◌, ◌++◌, length, get_or, take, set, sym, refl, ap, ◌∙◌, arith}
+use Rattle.std.proofs.lemmas.List.{take_more, length-take-le}
 use Rattle.allocation.specs.declared.line.Move.{Move}
 use Rattle.values.specs.Kinds.{Arithmetic}
 use Rattle.machine.specs.Machine.{Cells, move_one, move_all, write_all}
@@ -22,23 +19,11 @@ moves_step {V} K ms i d cs cs' cs'' x h inv e w k =
     let n : k + i + 1 ≡ k + (i + 1) = omega arith in
     all ∙ one ∙ (λ j. record { cells = (ap (set cs' m.to) (sym e) ∙ sym w) j; moves = n j })
 
-pub moves_end : {V : Type 0} (K : Arithmetic V) (ms : List Move) (i : ℕ) (cs cs' : List V) → i ≡ length ms → ((k : ℕ) → move_all K (take i ms) (record { cells = cs; moves = k }) ≡ record { cells = cs'; moves = k + i }) → (k : ℕ) → move_all K ms (record { cells = cs; moves = k }) ≡ record { cells = cs'; moves = k + length ms }
-moves_end {V} K ms i cs cs' e inv k =
-    ap (λ l. move_all K l (record { cells = cs; moves = k })) (sym (take_all i ms (omega arith))) ∙ inv k ∙ ap {B = Cells V} (λ n. record { cells = cs'; moves = k + n }) e
-
 -- values written one at a time
 write_all_more : {V : Type 0} (r : ℕ) (xs : List V) (x : V) (c : List V) → write_all r (xs ++ x ∷ []) c ≡ set (write_all r xs c) (r + length xs) x
 write_all_more r [] x c = ap (λ i. set c i x) {x = r} (omega arith)
 write_all_more r (y ∷ ys) x c = write_all_more (suc r) ys x (set c r y) ∙ ap (λ i. set (write_all (suc r) ys (set c r y)) i x) {x = suc r + length ys} (omega arith)
 
-pub write_all_step : {V : Type 0} (r : ℕ) (xs c d d' : List V) (i j : ℕ) (x : V) → i < length xs → j ≡ r + i → x ≡ get_or xs i x → d ≡ write_all r (take i xs) c → d' ≡ set d j x → d' ≡ write_all r (take (i + 1) xs) c
-write_all_step r xs c d d' i j x h e is before now' =
-    now' ∙ ap₂ (λ l k. set l k x) before (e ∙ ap (λ k. r + k) (sym (length-take-le i xs (omega arith)))) ∙ sym (write_all_more r (take i xs) x c) ∙ ap (λ y. write_all r (take i xs ++ y ∷ []) c) is ∙ ap (λ l. write_all r l c) (sym (take_more xs i x h))
-
-pub some_same : {V : Type 0} {x y : V} → Some x ≡ Some y → x ≡ y
-some_same e = cc
-
--- a frame has n cells where the last of them is there
-pub has_cells : {V : Type 0} (xs : List V) (d : V) (n : ℕ) → 1 ≤ n → is_some (slice_get xs (n - 1)) ≡ leb n (length xs)
-has_cells xs d n h =
-    ⊎_elim (λ w. ap is_some (slice_get_past xs (n - 1) (omega arith)) ∙ sym (lt-leb n (length xs) w)) (λ w. ap is_some (slice_get-get_or xs (n - 1) d (omega arith)) ∙ sym (le-leb n (length xs) w)) (cases_lt (length xs) n)
+pub write_all_step : {V : Type 0} (r : ℕ) (xs c : List V) (i : ℕ) (x : V) → i < length xs → x ≡ get_or xs i x → set (write_all r (take i xs) c) (r + i) x ≡ write_all r (take (i + 1) xs) c
+write_all_step r xs c i x h is =
+    ap (λ k. set (write_all r (take i xs) c) (r + k) x) (sym (length-take-le i xs (omega arith))) ∙ sym (write_all_more r (take i xs) x c) ∙ ap (λ y. write_all r (take i xs ++ y ∷ []) c) is ∙ ap (λ l. write_all r l c) (sym (take_more xs i x h))

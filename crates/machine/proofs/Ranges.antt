@@ -1,17 +1,16 @@
 -- What the tables of a run keep in range.
 use Rattle.std.proofs.Common.{◌≡◌, ℕ, ◌+◌, ◌-◌, ◌<◌, ◌≤◌, Bool, true, false, ◌&&◌, leb, List, [], map, length, get_or, sym, ap, ◌∙◌, subst, arith}
 use lib.ListN.{get_or-map}
-use Rattle.std.specs.List.{between, AllByRecursion}
+use Rattle.std.specs.List.{between}
 use Rattle.std.proofs.lemmas.List.Edits.{length-between, get_or-between}
 use Rattle.std.proofs.lemmas.Bool.{and_parts}
 use Rattle.std.proofs.lemmas.Bool.Decides.{nat_tests}
 use Rattle.source.specs.Nodes.{sound, successor}
 use Rattle.source.specs.declared.node.Node.{Node}
 use Rattle.source.specs.declared.node.Node.TheVariants.{Const, Mov, Binary, Call, Branch, Return}
-use Rattle.allocation.specs.Allocations.{line_at, origins}
+use Rattle.allocation.specs.Allocations.{line_at}
 use Rattle.allocation.specs.Ranges.{row_at, move_at, main_line_fits, row_fits, move_fits, MovesFit}
 use Rattle.allocation.specs.declared.line.Move.{Move}
-use Rattle.allocation.specs.declared.line.Main.{Main}
 use Rattle.allocation.specs.declared.line.Main.TheVariants.{Skip}
 use Rattle.allocation.specs.declared.line.Row.{Row}
 use Rattle.allocation.specs.Lines.{edge_moves}
@@ -41,18 +40,6 @@ pub row_parts : (r len : ℕ) (row : Row) → row_fits r len row ≡ true → Ro
 row_parts r len row e =
     let a = and_parts (main_line_fits r row.main) (leb row.ins row.outs && (leb row.outs row.alts && (leb row.alts row.end && leb row.end len))) e in
     record { main = a.0; ins = grind (arith, nat_tests); outs = grind (arith, nat_tests); alts = grind (arith, nat_tests); end = grind (arith, nat_tests) }
-
--- the registers that a main line reads are among k cells
-pub origins-below : (r k : ℕ) (m n : Main) → m ≡ n → main_line_fits r m ≡ true → r ≤ k → AllByRecursion (λ l. l < k) (origins n)
-origins-below r k m n is fits wide = go n (sym (ap (main_line_fits r) is) ∙ fits)
-  where
-    go : (n : Main) → main_line_fits r n ≡ true → AllByRecursion (λ l. l < k) (origins n)
-    go Main.Skip e = tt
-    go (Main.Const l i) e = tt
-    go (Main.Binary o l a b) e = (grind (arith, nat_tests), (grind (arith, nat_tests), tt))
-    go (Main.Call l f a b) e = (grind (arith, nat_tests), (grind (arith, nat_tests), tt))
-    go (Main.Branch c a b) e = (grind (arith, nat_tests), (grind (arith, nat_tests), tt))
-    go (Main.Return a) e = (grind (arith, nat_tests), tt)
 
 move_from : (r s : ℕ) (m : Move) → move_fits r s m ≡ true → m.from < r + s
 move_from r s m e = grind (arith, nat_tests)

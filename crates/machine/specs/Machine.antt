@@ -9,7 +9,7 @@ use Rattle.values.specs.Kinds.{Arithmetic}
 use Rattle.values.specs.Hosts.{Answers}
 use Rattle.machine.specs.declared.outcome.Outcome.{Outcome}
 use Rattle.machine.specs.declared.outcome.Entry.{Entry}
-use Rattle.machine.specs.declared.outcome.Taken.{Taken}
+use Rattle.std.specs.declared.ops.ControlFlow.{ControlFlow}
 use Rattle.allocation.specs.Lines.{main_action, edge_moves, line_of, arrival}
 
 -- whether an action, if there is one, asks the host
@@ -56,7 +56,7 @@ drive full step (suc left) p m =
 -- what an action comes to on the values of its operands: the value to set, the edge or the end, the entries and the host's state
 pub record Effect (V S : Type 0) : Type 0 where
   pub value : V
-  pub taken : Taken V
+  pub taken : ControlFlow V Bool
   pub told : List (Entry V)
   pub host : S
 
@@ -66,7 +66,7 @@ module _ {V : Type 0} (K : Arithmetic V) where
 
   -- an action that sets a value and goes to next
   abbrev pub sets : {S : Type 0} → V → S → Effect V S
-  sets x h = record { value = x; taken = Taken.Edge true; told = []; host = h }
+  sets x h = record { value = x; taken = ControlFlow.Continue true; told = []; host = h }
 
   abbrev pub first : List V → V
   first vs = slice_index_or vs 0 nothing
@@ -80,7 +80,7 @@ module _ {V : Type 0} (K : Arithmetic V) where
 
 module _ {V S : Type 0} (K : Arithmetic V) (E : Answers S V) where
   abbrev pub asked : ℕ → V → V → S → Effect V S
-  asked f a b h = record { value = E.answer h f a b; taken = Taken.Edge true; told = record { function = f; first = a; second = b; answer = E.answer h f a b } ∷ []; host = E.next h f a b }
+  asked f a b h = record { value = E.answer h f a b; taken = ControlFlow.Continue true; told = record { function = f; first = a; second = b; answer = E.answer h f a b } ∷ []; host = E.next h f a b }
 
   -- a `skip`, which sets nothing, has no result location; what a branch and an end would set, nobody looks at either
   abbrev pub effect : Option Action → List V → S → Effect V S
@@ -89,17 +89,17 @@ module _ {V S : Type 0} (K : Arithmetic V) (E : Answers S V) where
   effect (Some mov) vs h = sets K (first K vs) h
   effect (Some (binary o)) vs h = sets K (K.operate o (first K vs) (second K vs)) h
   effect (Some (call f)) vs h = asked f (first K vs) (second K vs) h
-  effect (Some (branch c)) vs h = record { value = nothing K; taken = Taken.Edge (K.test c (first K vs) (second K vs)); told = []; host = h }
-  effect (Some return) vs h = record { value = nothing K; taken = Taken.End (first K vs); told = []; host = h }
+  effect (Some (branch c)) vs h = record { value = nothing K; taken = ControlFlow.Continue (K.test c (first K vs) (second K vs)); told = []; host = h }
+  effect (Some return) vs h = record { value = nothing K; taken = ControlFlow.Break (first K vs); told = []; host = h }
 
 -- one node more, after which the machine stands at node n
 abbrev pub passed : {V S : Type 0} → ℕ → List (Entry V) → S → Log V S → Log V S
 passed n told h p = record { node = n; count = p.count + 1; transcript = p.transcript ++ told; host = h }
 
 -- a node carried out: it ends with memory m, or takes an edge, after which the memory is `then edge`
-abbrev pub carried : {V S M : Type 0} → Node → Taken V → List (Entry V) → S → Log V S → M → (Bool → M) → Progress V S M
-carried n (Taken.Edge e) told h p m then = goes (passed (successor n e) told h p) (then e)
-carried n (Taken.End v) told h p m then = ends v (passed p.node told h p) m
+abbrev pub carried : {V S M : Type 0} → Node → ControlFlow V Bool → List (Entry V) → S → Log V S → M → (Bool → M) → Progress V S M
+carried n (ControlFlow.Continue e) told h p m then = goes (passed (successor n e) told h p) (then e)
+carried n (ControlFlow.Break v) told h p m then = ends v (passed p.node told h p) m
 
 -- a value for each temporary, with temporary d set, if there is one
 abbrev pub assign : {V : Type 0} → Option ℕ → V → (ℕ → V) → ℕ → V

@@ -40,9 +40,7 @@ pub(crate) fn write_arguments<V: Kind, F: Frame<Value = V>>(args: &[V], first: u
     ensures cells { F.Frame.cells frame.new ≡ write_all first args.now (F.Frame.cells frame.old) }
     ensures wide { length (F.Frame.cells frame.new) ≡ length (F.Frame.cells frame.old) }
 {
-    let mut at = first as usize;
-    for x in args {
-        let _ = frame.write(at, *x);
-        at += 1;
+    for (i, x) in args.iter().enumerate() {
+        let _ = frame.write(first as usize + i, *x);
     }
 }

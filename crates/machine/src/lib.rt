@@ -5,4 +5,4 @@ mod cells;
 pub mod code;
 pub mod outcome;
 pub mod run;
-mod step;
+mod running;

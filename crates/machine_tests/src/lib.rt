@@ -6,29 +6,15 @@ mod worked;
 #[cfg(test)]
 mod tests {
     use crate::worked::worked;
-    use machine::outcome::{Entry, Outcome};
+    use machine::outcome::{Entry, Outcome, Report};
     use machine::run::run;
+    use refusal::Refusal;
     use source::node::{Condition, Operation};
     use std::test::Fail;
     use values::frame::{Banked, Flat, Frame};
     use values::host::{Host, Script, Seats};
     use values::kind::Kind;
-    use values::word::{BlankWord, Word};
-
-    // A value as a number, or none where it is blank.
-    fn number(x: BlankWord) -> Option<u32> {
-        match x {
-            BlankWord::Word(w) => Some(w.0),
-            BlankWord::Blank => None,
-        }
-    }
-
-    fn value(x: Option<u32>) -> BlankWord {
-        match x {
-            Some(n) => BlankWord::Word(Word(n)),
-            None => BlankWord::Blank,
-        }
-    }
+    use values::word::{BlankWord, NotAValue, Word};
 
     // An entry that no run has written.
     fn unwritten() -> Entry<Word> {
@@ -40,30 +26,13 @@ mod tests {
         }
     }
 
-    fn numbers(entry: Entry<Word>) -> (u8, u32, u32, u32) {
-        (
-            entry.function,
-            entry.first.0,
-            entry.second.0,
-            entry.answer.0,
-        )
-    }
-
-    // Runs the worked allocation: how it ended, with what number or by what question, and its nodes and moves.
-    fn run_worked<H: Host<Value = Word>, F: Frame<Value = Word>>(
-        budget: u32,
-        args: &[Word],
-        host: &mut H,
-        frame: &mut F,
-        list: &mut [Entry<Word>],
-    ) -> (&'static str, u32, u32, u64) {
-        match run(&worked(), budget, args, host, frame, list) {
-            Ok(report) => match report.outcome {
-                Outcome::Ended(x) => ("ended", x.0, report.nodes, report.moves),
-                Outcome::Spent => ("spent", 0, report.nodes, report.moves),
-                Outcome::Full => ("full", 0, report.nodes, report.moves),
-            },
-            Err(refusal) => ("refused", refusal.numbers().question as u32, 0, 0),
+    // What is said of a run of the worked allocation, which makes three moves.
+    fn worked_report<V: Kind>(outcome: Outcome<V>, nodes: u32, entries: usize) -> Report<V> {
+        Report {
+            outcome,
+            nodes,
+            moves: 3,
+            entries,
         }
     }
 
@@ -77,7 +46,7 @@ mod tests {
             (Operation::Min, 3, 5, 3),
             (Operation::Max, 3, 5, 5),
         ] {
-            assert_eq!(rt; Word::operate(operation, Word(a), Word(b)).0, c);
+            assert_eq!(rt; Word::operate(operation, Word(a), Word(b)), Word(c));
         }
         for (condition, a, b, c) in [
             (Condition::Eq, 3u32, 3u32, true),
@@ -94,19 +63,19 @@ mod tests {
     // With a blank in either operand an operation gives blank, and a test says no.
     #[test]
     fn blanks(rt: HostRuntime) {
+        let blank = BlankWord(None);
+        let five = BlankWord::from(Word(5));
+        let ten = BlankWord::from(Word(10));
         for (a, b, sum, same) in [
-            (None, Some(5), None, false),
-            (Some(5), None, None, false),
-            (None, None, None, false),
-            (Some(5), Some(5), Some(10), true),
+            (blank, five, blank, false),
+            (five, blank, blank, false),
+            (blank, blank, blank, false),
+            (five, five, ten, true),
         ] {
-            assert_eq!(rt;
-                number(BlankWord::operate(Operation::Add, value(a), value(b))),
-                sum
-            );
-            assert_eq!(rt; BlankWord::test(Condition::Eq, value(a), value(b)), same);
+            assert_eq!(rt; BlankWord::operate(Operation::Add, a, b), sum);
+            assert_eq!(rt; BlankWord::test(Condition::Eq, a, b), same);
         }
-        assert_eq!(rt; number(BlankWord::constant(7)), Some(7));
+        assert_eq!(rt; BlankWord::constant(7), BlankWord::from(Word(7)));
     }
 
     // Seat 64 is seat 0; function 2 answers 0 and stores nothing.
@@ -124,7 +93,7 @@ mod tests {
                 (255, 64, 9, 0),
                 (0, 64, 0, 11),
             ] {
-                assert_eq!(rt; host.ask(function, Word(a), Word(b)).0, answer);
+                assert_eq!(rt; host.ask(function, Word(a), Word(b)), Word(answer));
             }
         }
         assert_eq!(rt; row[0], 11);
@@ -136,7 +105,7 @@ mod tests {
     fn scripts(rt: HostRuntime) -> Result<(), Fail> {
         let mut host = Script::new(vec![in rt.alloc(); Word(9); 2]?);
         for answer in [9u32, 9, 0, 0] {
-            assert_eq!(rt; host.ask(1, Word(5), Word(6)).0, answer);
+            assert_eq!(rt; host.ask(1, Word(5), Word(6)), Word(answer));
         }
         Ok(())
     }
@@ -152,18 +121,14 @@ mod tests {
         assert!(rt; frame.write(2, Word(20)));
         assert!(rt; !frame.write(5, Word(50)));
         for (i, n) in [
-            (0usize, Some(1u32)),
-            (1, Some(10)),
-            (2, Some(20)),
-            (3, Some(2)),
-            (4, Some(2)),
+            (0usize, Some(Word(1))),
+            (1, Some(Word(10))),
+            (2, Some(Word(20))),
+            (3, Some(Word(2))),
+            (4, Some(Word(2))),
             (5, None),
         ] {
-            let x = match frame.read(i) {
-                Some(w) => Some(w.0),
-                None => None,
-            };
-            assert_eq!(rt; x, n);
+            assert_eq!(rt; frame.read(i), n);
         }
         Ok(())
     }
@@ -178,17 +143,32 @@ mod tests {
         let mut list = vec![in rt.alloc(); unwritten(); 2]?;
         let args = [Word(u32::MAX), Word(2)];
         assert_eq!(rt;
-            run_worked(9, &args, &mut host, &mut frame, &mut []),
-            ("full", 0, 3, 3)
+            run(&worked(), 9, &args, &mut host, &mut frame, &mut []),
+            Ok(worked_report(Outcome::Full, 3, 0))
         );
-        for (budget, told) in [(3u32, ("spent", 0u32, 3u32, 3u64)), (9, ("ended", 9, 5, 3))] {
+        for (budget, report) in [
+            (3u32, worked_report(Outcome::Spent, 3, 0)),
+            (9, worked_report(Outcome::Ended(Word(9)), 5, 1)),
+        ] {
             assert_eq!(rt;
-                run_worked(budget, &args, &mut host, &mut frame, list.as_mut_slice()),
-                told
+                run(
+                    &worked(),
+                    budget,
+                    &args,
+                    &mut host,
+                    &mut frame,
+                    list.as_mut_slice()
+                ),
+                Ok(report)
             );
         }
-        assert_eq!(rt; numbers(list[0]), (7, 1, 2, 9));
-        assert_eq!(rt; numbers(list[1]), (0, 0, 0, 0));
+        let call = Entry {
+            function: 7,
+            first: Word(1),
+            second: Word(2),
+            answer: Word(9),
+        };
+        assert_eq!(rt; list.as_slice(), [call, unwritten()].as_slice());
         Ok(())
     }
 
@@ -200,17 +180,22 @@ mod tests {
             row: vec![in rt.alloc(); Word(7); 7]?,
         };
         assert_eq!(rt;
-            run_worked(9, &[Word(1)], &mut host, &mut frame, &mut []),
-            ("refused", 51, 0, 0)
+            run(&worked(), 9, &[Word(1)], &mut host, &mut frame, &mut []),
+            Err(Refusal::Arguments)
         );
         assert_eq!(rt;
-            run_worked(9, &[Word(1), Word(2)], &mut host, &mut frame, &mut []),
-            ("refused", 52, 0, 0)
+            run(
+                &worked(),
+                9,
+                &[Word(1), Word(2)],
+                &mut host,
+                &mut frame,
+                &mut []
+            ),
+            Err(Refusal::Cells)
         );
-        assert_eq!(rt; host.ask(0, Word(0), Word(0)).0, 9);
-        for w in frame.row {
-            assert_eq!(rt; w.0, 7);
-        }
+        assert_eq!(rt; host.ask(0, Word(0), Word(0)), Word(9));
+        assert_eq!(rt; frame.row.as_slice(), [Word(7); 7].as_slice());
         Ok(())
     }
 
@@ -223,51 +208,65 @@ mod tests {
             high: vec![in rt.alloc(); Word(7); 6]?,
         };
         assert_eq!(rt;
-            run_worked(
+            run(
+                &worked(),
                 9,
                 &[Word(u32::MAX), Word(2)],
                 &mut Seats { row: &mut row },
                 &mut frame,
                 &mut [unwritten()],
             ),
-            ("ended", 0, 5, 3)
+            Ok(worked_report(Outcome::Ended(Word(0)), 5, 1))
         );
         assert_eq!(rt; row[1], 5);
         Ok(())
     }
 
-    // The number that the worked allocation ends with on blank words, and the nodes that it passes.
-    fn run_blank<F: Frame<Value = BlankWord>>(
-        args: &[BlankWord],
-        host: &mut Script<BlankWord>,
-        frame: &mut F,
-    ) -> (Option<u32>, u32) {
-        match run(&worked(), 9, args, host, frame, &mut []) {
-            Ok(report) => match report.outcome {
-                Outcome::Ended(x) => (number(x), report.nodes),
-                _ => (Some(0), report.nodes),
-            },
-            Err(_) => (Some(0), 0),
-        }
-    }
-
     // The sum with a blank is blank, and the branch on it goes to no.
     #[test]
     fn blank_runs(rt: HostRuntime) -> Result<(), Fail> {
-        let mut host = Script::new(vec![in rt.alloc(); value(Some(9)); 1]?);
+        let blank = BlankWord(None);
+        let five = BlankWord::from(Word(5));
+        let ten = BlankWord::from(Word(10));
+        let mut host = Script::new(vec![in rt.alloc(); BlankWord::from(Word(9)); 1]?);
         let mut frame = Flat {
-            row: vec![in rt.alloc(); value(Some(7)); 8]?,
+            row: vec![in rt.alloc(); BlankWord::from(Word(7)); 8]?,
         };
-        for (a, b, told) in [
-            (None, Some(10u32), (None, 4u32)),
-            (Some(5u32), None, (None, 4)),
-            (Some(5), Some(10), (Some(15u32), 4)),
+        for (a, b, end) in [
+            (blank, ten, blank),
+            (five, blank, blank),
+            (five, ten, BlankWord::from(Word(15))),
         ] {
             assert_eq!(rt;
-                run_blank(&[value(a), value(b)], &mut host, &mut frame),
-                told
+                run(&worked(), 9, &[a, b], &mut host, &mut frame, &mut []),
+                Ok(worked_report(Outcome::Ended(end), 4, 0))
             );
         }
+        Ok(())
+    }
+
+    // A value is written as its number, a blank as `-`, and what is written is read back.
+    #[test]
+    fn written_values(rt: HostRuntime) -> Result<(), Fail> {
+        let heap = rt.alloc();
+        for (text, word) in [
+            ("0", Ok(Word(0))),
+            ("4294967295", Ok(Word(u32::MAX))),
+            ("4294967296", Err(NotAValue)),
+            ("07", Err(NotAValue)),
+            ("-", Err(NotAValue)),
+            ("", Err(NotAValue)),
+        ] {
+            assert_eq!(rt; text.parse::<Word>(), word);
+            if let Ok(w) = word {
+                assert_eq!(rt; format!(in heap; "{w}")?.as_str(), text);
+            }
+        }
+        for (text, value) in [("-", BlankWord(None)), ("12", BlankWord::from(Word(12)))] {
+            assert_eq!(rt; text.parse::<BlankWord>(), Ok(value));
+            assert_eq!(rt; format!(in heap; "{value}")?.as_str(), text);
+        }
+        assert_eq!(rt; "--".parse::<BlankWord>(), Err(NotAValue));
         Ok(())
     }
 }

@@ -1,6 +1,7 @@
 // What the calls of a script bring: texts, memory, arguments, hosts, frames, lists and buffers.
-use crate::kind::{Hosted, Written};
-use crate::script::{FrameSize, Line, RunLine, read_line, read_value};
+use crate::error::Error;
+use crate::kind::Hosted;
+use crate::script::{FrameSize, Line, RunLine, read_line};
 use choices::frame::AnyFrame;
 use choices::placer::AnyPlacer;
 use machine::outcome::Entry;
@@ -9,19 +10,22 @@ use std::alloc::{AllocError, Global};
 use std::fs::File;
 use std::io;
 use std::io::Read;
+use std::str::FromStr;
 use values::frame::{Banked, Flat};
+use values::kind::Kind;
+use values::word::NotAValue;
 
 // One byte more than a text may have, so that a longer file is refused by its size and never read to its end.
 const MOST: u64 = 32_769;
 
 // The most calls of a script.
-const MOST_CALLS: usize = 1_024;
+pub const MOST_CALLS: usize = 1_024;
 
 // What every cell holds at first.
 const CELL: u32 = 7;
 
 // What every word of work memory is at first: no check writes it, so that words that are written show.
-const UNWRITTEN: u64 = u64::MAX;
+pub const UNWRITTEN: u64 = u64::MAX;
 
 pub type ScriptCall<V, H> = Call<V, H, AnyFrame<V>, AnyPlacer>;
 
@@ -31,11 +35,11 @@ fn read_file(rt: &HostRuntime, path: &str) -> io::Result<Vec<u8>> {
     Ok(text)
 }
 
-fn bring_cells<V: Written>(heap: Global, cells: usize) -> Result<Vec<V>, AllocError> {
+fn bring_cells<V: Kind>(heap: Global, cells: usize) -> Result<Vec<V>, AllocError> {
     vec![in heap; V::constant(CELL); cells]
 }
 
-fn bring_frame<V: Written>(heap: Global, size: FrameSize) -> Result<AnyFrame<V>, AllocError> {
+fn bring_frame<V: Kind>(heap: Global, size: FrameSize) -> Result<AnyFrame<V>, AllocError> {
     match size {
         FrameSize::Flat(cells) => {
             let row = bring_cells(heap, cells)?;
@@ -49,7 +53,7 @@ fn bring_frame<V: Written>(heap: Global, size: FrameSize) -> Result<AnyFrame<V>,
     }
 }
 
-fn bring_list<V: Written>(heap: Global, entries: usize) -> Result<Vec<Entry<V>>, AllocError> {
+fn bring_list<V: Kind>(heap: Global, entries: usize) -> Result<Vec<Entry<V>>, AllocError> {
     let zero = V::constant(0);
     let entry = Entry {
         function: 0,
@@ -60,17 +64,17 @@ fn bring_list<V: Written>(heap: Global, entries: usize) -> Result<Vec<Entry<V>>,
     vec![in heap; entry; entries]
 }
 
-// The values that are written: none is `.`, and others are parted by commas.
-fn bring_values<V: Written>(heap: Global, field: &str) -> Result<Option<Vec<V>>, AllocError> {
+// The values that are written, or none where one of them is no value: none at all are `.`, and others are parted by commas.
+fn bring_values<V: FromStr<Err = NotAValue> + Drop>(
+    heap: Global,
+    field: &str,
+) -> Result<Option<Vec<V>>, AllocError> {
     let mut values = Vec::new(heap);
     if field == "." {
         return Ok(Some(values));
     }
     for part in field.split(',') {
-        let Some(written) = read_value(part) else {
-            return Ok(None);
-        };
-        let Some(value) = V::from_written(written) else {
+        let Ok(value) = part.parse() else {
             return Ok(None);
         };
         values.push(value)?;
@@ -78,7 +82,7 @@ fn bring_values<V: Written>(heap: Global, field: &str) -> Result<Option<Vec<V>>,
     Ok(Some(values))
 }
 
-fn bring_run<V: Written, H: Hosted<V>>(
+fn bring_run<V: Kind + FromStr<Err = NotAValue>, H: Hosted<V>>(
     heap: Global,
     line: RunLine<'_>,
 ) -> Result<Option<ScriptCall<V, H>>, AllocError> {
@@ -102,7 +106,7 @@ fn bring_run<V: Written, H: Hosted<V>>(
 }
 
 // The call of a line, with all that it brings; none if it is no call after all.
-fn bring_call<V: Written, H: Hosted<V>>(
+fn bring_call<V: Kind + FromStr<Err = NotAValue>, H: Hosted<V>>(
     rt: &HostRuntime,
     line: Line<'_>,
 ) -> io::Result<Option<ScriptCall<V, H>>> {
@@ -136,64 +140,36 @@ fn bring_call<V: Written, H: Hosted<V>>(
     }
 }
 
-fn say_no_call(rt: &HostRuntime, number: usize) -> io::Result<bool> {
-    eprintln!(rt; "replay: line {number} is no call")?;
-    Ok(false)
-}
-
-// Adds the call of a line. If there is none, says so and answers false.
-fn add_call<V: Written, H: Hosted<V>>(
+// Adds the call of a line. A blank line is no call and does no harm.
+fn add_line<V: Kind + FromStr<Err = NotAValue>, H: Hosted<V>>(
     rt: &HostRuntime,
-    number: usize,
-    line: Line<'_>,
+    line: usize,
+    text: &str,
     calls: &mut Vec<ScriptCall<V, H>>,
-) -> io::Result<bool> {
-    match bring_call(rt, line) {
-        Ok(Some(call)) => {
-            calls.push(call)?;
-            Ok(true)
-        }
-        Ok(None) => say_no_call(rt, number),
-        Err(error) => {
-            eprintln!(rt; "replay: line {number}: {error}")?;
-            Ok(false)
-        }
-    }
-}
-
-// The same, of a line as it is written. A blank line is no call and does no harm.
-fn add_line<V: Written, H: Hosted<V>>(
-    rt: &HostRuntime,
-    number: usize,
-    line: &str,
-    calls: &mut Vec<ScriptCall<V, H>>,
-) -> io::Result<bool> {
-    if line.is_empty() {
-        return Ok(true);
+) -> Result<(), Error> {
+    if text.is_empty() {
+        return Ok(());
     }
     if calls.len() >= MOST_CALLS {
-        eprintln!(rt; "replay: line {number} is one call more than {MOST_CALLS}")?;
-        return Ok(false);
+        return Err(Error::OneMore { line });
     }
-    let fields: Vec<&str> = line.split('\t').collect(rt.alloc())?;
-    match read_line(fields.as_slice()) {
-        Some(read) => add_call(rt, number, read, calls),
-        None => say_no_call(rt, number),
-    }
+    let fields: Vec<&str> = text.split('\t').collect(rt.alloc())?;
+    let read = read_line(fields.as_slice()).ok_or(Error::NoCall { line })?;
+    let call = bring_call(rt, read)
+        .map_err(|error| Error::Missing { line, error })?
+        .ok_or(Error::NoCall { line })?;
+    calls.push(call).map_err(AllocError::from)?;
+    Ok(())
 }
 
-// Adds the calls of a script. If a line is no call, says so and answers false.
-pub fn add_calls<V: Written, H: Hosted<V>>(
+// Adds the calls of a script.
+pub fn add_calls<V: Kind + FromStr<Err = NotAValue>, H: Hosted<V>>(
     rt: &HostRuntime,
     script: &str,
     calls: &mut Vec<ScriptCall<V, H>>,
-) -> io::Result<bool> {
-    let mut number = 0usize;
-    for line in script.split('\n') {
-        number = number.saturating_add(1);
-        if !add_line(rt, number, line, calls)? {
-            return Ok(false);
-        }
+) -> Result<(), Error> {
+    for (i, text) in script.split('\n').enumerate() {
+        add_line(rt, i.saturating_add(1), text, calls)?;
     }
-    Ok(true)
+    Ok(())
 }

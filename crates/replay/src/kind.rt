@@ -1,50 +1,36 @@
-// Kinds of value and their hosts, as scripts write them.
-use crate::script::HostName;
-use crate::show::show_values;
+// The hosts of a kind of value, as scripts write them.
+use crate::show::Fields;
 use choices::host::{Row, WordHost};
 use std::io;
+use std::str::FromStr;
 use values::host::{Host, Script};
 use values::kind::Kind;
 use values::word::{BlankWord, Word};
 
-// A value is written as a number, or as a blank.
-pub trait Written: Kind + Clone {
-    fn from_written(number: Option<u32>) -> Option<Self>;
-
-    fn written(self) -> Option<u32>;
+#[derive(Clone, Copy)]
+pub enum HostName {
+    Script,
+    Seats,
 }
 
-impl Written for Word {
-    fn from_written(number: Option<u32>) -> Option<Word> {
-        match number {
-            Some(n) => Some(Word(n)),
-            None => None,
-        }
-    }
+// A word that names no host.
+#[derive(Clone, Copy)]
+pub struct NoHost;
 
-    fn written(self) -> Option<u32> {
-        Some(self.0)
-    }
-}
+impl FromStr for HostName {
+    type Err = NoHost;
 
-impl Written for BlankWord {
-    fn from_written(number: Option<u32>) -> Option<BlankWord> {
-        match number {
-            Some(n) => Some(BlankWord::Word(Word(n))),
-            None => Some(BlankWord::Blank),
-        }
-    }
-
-    fn written(self) -> Option<u32> {
-        match self {
-            BlankWord::Word(word) => Some(word.0),
-            BlankWord::Blank => None,
+    fn from_str(s: &str) -> Result<HostName, NoHost> {
+        match s {
+            "script" => Ok(HostName::Script),
+            "seats" => Ok(HostName::Seats),
+            _ => Err(NoHost),
         }
     }
 }
 
 // A host that a script can name.
-pub trait Hosted<V: Written>: Host<Value = V> + Drop {
+pub trait Hosted<V: Kind>: Host<Value = V> + Drop {
     // None where the kind has no such host, or there are too many values for it.
     fn from_values(name: HostName, values: Vec<V>) -> Option<Self>;
 
@@ -58,8 +44,8 @@ fn fill_seats(words: &[Word]) -> Option<Row> {
         return None;
     }
     let mut seats = [0u32; 64];
-    for i in 0..words.len() {
-        seats[i] = words[i].0;
+    for (seat, word) in seats.iter_mut().zip(words) {
+        *seat = word.0;
     }
     Some(Row { seats })
 }
@@ -68,23 +54,15 @@ impl Hosted<Word> for WordHost {
     fn from_values(name: HostName, values: Vec<Word>) -> Option<WordHost> {
         match name {
             HostName::Script => Some(WordHost::Script(Script::new(values))),
-            HostName::Seats => {
-                let row = fill_seats(values.as_slice())?;
-                Some(WordHost::Seats(row))
-            }
+            HostName::Seats => fill_seats(values.as_slice()).map(WordHost::Seats),
         }
     }
 
     fn show_state(&self, rt: &HostRuntime) -> io::Result<()> {
         match self {
-            WordHost::Script(host) => show_values(rt, host.left())?,
-            WordHost::Seats(row) => {
-                for seat in row.seats.iter() {
-                    print!(rt; "\t{seat}")?;
-                }
-            }
+            WordHost::Script(host) => Fields(host.left()).show(rt),
+            WordHost::Seats(row) => Fields(row.seats.as_slice()).show(rt),
         }
-        Ok(())
     }
 }
 
@@ -97,6 +75,6 @@ impl Hosted<BlankWord> for Script<BlankWord> {
     }
 
     fn show_state(&self, rt: &HostRuntime) -> io::Result<()> {
-        show_values(rt, self.left())
+        Fields(self.left()).show(rt)
     }
 }

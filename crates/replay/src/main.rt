@@ -2,73 +2,70 @@
 
 // Reads a script of calls on standard input, makes them on one new engine, and prints what each answered and left.
 mod bring;
+mod error;
 mod kind;
 mod script;
 mod show;
 
 use crate::bring::{ScriptCall, add_calls};
-use crate::kind::{Hosted, Written};
+use crate::error::Error;
+use crate::kind::Hosted;
+use crate::script::MOST_BYTES;
 use crate::show::show_call;
 use anyhow::anyhow;
 use choices::host::WordHost;
 use service::serve::serve;
+use std::env;
+use std::fmt::Display;
 use std::io::Read;
-use std::{env, io};
+use std::str::FromStr;
 use values::host::Script;
-use values::word::{BlankWord, Word};
+use values::kind::Kind;
+use values::word::{BlankWord, NotAValue, Word};
 
-// The most bytes of a script.
-const MOST: usize = 1_048_576;
-
-// The script, or none, and then why is said.
-fn read_script(rt: &HostRuntime) -> io::Result<Option<String>> {
+fn read_script(rt: &HostRuntime) -> Result<String, Error> {
     let mut text = Vec::new(rt.alloc());
-    rt.stdin().take(MOST as u64 + 1).read_to_end(&mut text)?;
-    if text.len() > MOST {
-        eprintln!(rt; "replay: the script has more than {MOST} bytes")?;
-        return Ok(None);
+    rt.stdin()
+        .take(MOST_BYTES as u64 + 1)
+        .read_to_end(&mut text)?;
+    if text.len() > MOST_BYTES {
+        return Err(Error::TooLong);
     }
-    match String::from_utf8(text) {
-        Ok(script) => Ok(Some(script)),
-        Err(_) => {
-            eprintln!(rt; "replay: the script is no text")?;
-            Ok(None)
-        }
-    }
+    String::from_utf8(text).map_err(|_| Error::NoText)
 }
 
-// Whether the script was one of calls.
-fn replay<V: Written, H: Hosted<V>>(rt: &HostRuntime) -> io::Result<bool> {
-    let Some(script) = read_script(rt)? else {
-        return Ok(false);
-    };
+fn replay<V: Kind + FromStr<Err = NotAValue> + Display, H: Hosted<V>>(
+    rt: &HostRuntime,
+) -> Result<(), Error> {
+    let script = read_script(rt)?;
     let mut calls: Vec<ScriptCall<V, H>> = Vec::new(rt.alloc());
-    if !add_calls(rt, script.as_str(), &mut calls)? {
-        return Ok(false);
-    }
+    add_calls(rt, script.as_str(), &mut calls)?;
     serve(rt.alloc(), &mut calls)?;
     for call in calls.iter() {
         show_call(rt, call)?;
     }
-    Ok(true)
+    Ok(())
 }
 
-fn run(rt: &HostRuntime) -> io::Result<bool> {
+fn run(rt: &HostRuntime) -> Result<(), Error> {
     let mut args = env::args(rt)?.skip(1);
-    if let (Some(kind), None) = (args.next(), args.next()) {
-        match kind.as_str() {
-            "word" => return replay::<Word, WordHost>(rt),
-            "blank" => return replay::<BlankWord, Script<BlankWord>>(rt),
-            _ => {}
-        }
+    let (Some(kind), None) = (args.next(), args.next()) else {
+        return Err(Error::Usage);
+    };
+    match kind.as_str() {
+        "word" => replay::<Word, WordHost>(rt),
+        "blank" => replay::<BlankWord, Script<BlankWord>>(rt),
+        _ => Err(Error::Usage),
     }
-    eprintln!(rt; "usage: replay word|blank < SCRIPT")?;
-    Ok(false)
 }
 
 fn main(rt: HostRuntime) -> anyhow::Result<()> {
-    if run(&rt)? {
-        return Ok(());
+    match run(&rt) {
+        Ok(()) => Ok(()),
+        Err(Error::Io(error)) => Err(error.into()),
+        Err(error) => {
+            eprintln!(rt; "{error}")?;
+            Err(anyhow!("no script of calls"))
+        }
     }
-    Err(anyhow!("no script of calls"))
 }

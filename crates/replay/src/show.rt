@@ -1,25 +1,31 @@
 // What is printed of a call that was made: its answer, and what it left.
-use crate::bring::ScriptCall;
-use crate::kind::{Hosted, Written};
+use crate::bring::{ScriptCall, UNWRITTEN};
+use crate::kind::Hosted;
 use choices::frame::AnyFrame;
 use machine::outcome::{Entry, Outcome, Report};
 use refusal::Refusal;
-use service::call::{Call, Load, Run, Write};
-use std::io;
+use service::call::{Call, Load, Offer, Place, Run, Write};
+use std::fmt::Display;
+use std::{fmt, io};
+use values::kind::Kind;
 
-// One more field of a line.
-fn show_value<V: Written>(rt: &HostRuntime, value: V) -> io::Result<()> {
-    match value.written() {
-        Some(number) => print!(rt; "\t{number}"),
-        None => print!(rt; "\t-"),
+// Values, each as one more field of a line.
+#[derive(Clone, Copy)]
+pub struct Fields<'a, V>(pub &'a [V]);
+
+impl<V: Display> Display for Fields<'_, V> {
+    fn fmt<W: fmt::Write>(&self, f: &mut fmt::Formatter<W>) -> fmt::Result {
+        for value in self.0 {
+            write!(f, "\t{value}")?;
+        }
+        Ok(())
     }
 }
 
-pub fn show_values<V: Written>(rt: &HostRuntime, values: &[V]) -> io::Result<()> {
-    for value in values {
-        show_value(rt, *value)?;
+impl<V: Display> Fields<'_, V> {
+    pub fn show(&self, rt: &HostRuntime) -> io::Result<()> {
+        print!(rt; "{self}")
     }
-    Ok(())
 }
 
 fn show_load(rt: &HostRuntime, answer: Result<(u8, u16, u32), Refusal>) -> io::Result<()> {
@@ -31,28 +37,26 @@ fn show_load(rt: &HostRuntime, answer: Result<(u8, u16, u32), Refusal>) -> io::R
     }
 }
 
-// How many words were written, and their sum modulo 2^64: a word that was not is all ones.
+// How many words were written, and their sum modulo 2^64.
 fn show_memory(rt: &HostRuntime, memory: &[u64]) -> io::Result<()> {
-    let mut written = 0usize;
-    let mut sum = 0u64;
-    for word in memory {
-        if *word != u64::MAX {
-            written = written.saturating_add(1);
-            sum = sum.wrapping_add(*word);
-        }
-    }
+    let (written, sum) = memory
+        .iter()
+        .filter(|word| **word != UNWRITTEN)
+        .fold((0usize, 0u64), |(written, sum), word| {
+            (written.saturating_add(1), sum.wrapping_add(*word))
+        });
     println!(rt; "memory\t{written}\t{sum}")
 }
 
 // Whether the main lines were matched with their nodes, so that the work memory is written.
 fn is_matched(refusal: Refusal) -> bool {
-    match refusal {
+    matches!(
+        refusal,
         Refusal::Elsewhere { .. }
-        | Refusal::Overwritten { .. }
-        | Refusal::NeverSet { .. }
-        | Refusal::Foreign { .. } => true,
-        _ => false,
-    }
+            | Refusal::Overwritten { .. }
+            | Refusal::NeverSet { .. }
+            | Refusal::Foreign { .. }
+    )
 }
 
 // Of an offer or a placement.
@@ -72,15 +76,11 @@ fn show_verdict(rt: &HostRuntime, answer: Result<u32, Refusal>, memory: &[u64]) 
     }
 }
 
-fn show_report<V: Written>(rt: &HostRuntime, report: &Report<V>) -> io::Result<()> {
-    print!(rt; "granted")?;
+fn show_report<V: Kind + Display>(rt: &HostRuntime, report: &Report<V>) -> io::Result<()> {
     match report.outcome {
-        Outcome::Ended(value) => {
-            print!(rt; "\tended")?;
-            show_value(rt, value)?;
-        }
-        Outcome::Spent => print!(rt; "\tspent")?,
-        Outcome::Full => print!(rt; "\tfull")?,
+        Outcome::Ended(value) => print!(rt; "granted\tended\t{value}")?,
+        Outcome::Spent => print!(rt; "granted\tspent")?,
+        Outcome::Full => print!(rt; "granted\tfull")?,
     }
     let nodes = report.nodes;
     let moves = report.moves;
@@ -88,28 +88,29 @@ fn show_report<V: Written>(rt: &HostRuntime, report: &Report<V>) -> io::Result<(
     println!(rt; "\t{nodes}\t{moves}\t{entries}")
 }
 
-fn show_cells<V: Written>(rt: &HostRuntime, frame: &AnyFrame<V>) -> io::Result<()> {
+fn show_cells<V: Kind + Display>(rt: &HostRuntime, frame: &AnyFrame<V>) -> io::Result<()> {
     print!(rt; "cells")?;
     match frame {
-        AnyFrame::Flat(flat) => show_values(rt, flat.row.as_slice())?,
+        AnyFrame::Flat(flat) => Fields(flat.row.as_slice()).show(rt)?,
         AnyFrame::Banked(banked) => {
-            show_values(rt, banked.low.as_slice())?;
-            show_values(rt, banked.high.as_slice())?;
+            Fields(banked.low.as_slice()).show(rt)?;
+            Fields(banked.high.as_slice()).show(rt)?;
         }
     }
     println!(rt; "")
 }
 
-fn show_entry<V: Written>(rt: &HostRuntime, entry: &Entry<V>) -> io::Result<()> {
-    let function = entry.function;
-    print!(rt; "call\t{function}")?;
-    show_value(rt, entry.first)?;
-    show_value(rt, entry.second)?;
-    show_value(rt, entry.answer)?;
-    println!(rt; "")
+fn show_entry<V: Kind + Display>(rt: &HostRuntime, entry: &Entry<V>) -> io::Result<()> {
+    let Entry {
+        function,
+        first,
+        second,
+        answer,
+    } = *entry;
+    println!(rt; "call\t{function}\t{first}\t{second}\t{answer}")
 }
 
-fn show_run<V: Written, H: Hosted<V>>(
+fn show_run<V: Kind + Display, H: Hosted<V>>(
     rt: &HostRuntime,
     run: &Run<V, H, AnyFrame<V>>,
 ) -> io::Result<()> {
@@ -144,25 +145,34 @@ fn show_write(rt: &HostRuntime, write: &Write) -> io::Result<()> {
     }
 }
 
-// A call that was not made has nothing to show.
-pub fn show_call<V: Written, H: Hosted<V>>(
+pub fn show_call<V: Kind + Display, H: Hosted<V>>(
     rt: &HostRuntime,
     call: &ScriptCall<V, H>,
 ) -> io::Result<()> {
     match call {
-        Call::Load(load) => match load.answer {
-            Some(answer) => show_load(rt, answer),
-            None => Ok(()),
-        },
-        Call::Offer(offer) => match offer.answer {
-            Some(answer) => show_verdict(rt, answer, offer.memory.as_slice()),
-            None => Ok(()),
-        },
-        Call::Place(place) => match place.answer {
-            Some(answer) => show_verdict(rt, answer, place.memory.as_slice()),
-            None => Ok(()),
-        },
+        Call::Load(
+            Load {
+                answer: Some(answer),
+                ..
+            },
+        ) => show_load(rt, *answer),
+        Call::Offer(
+            Offer {
+                answer: Some(answer),
+                memory,
+                ..
+            },
+        ) => show_verdict(rt, *answer, memory.as_slice()),
+        Call::Place(
+            Place {
+                answer: Some(answer),
+                memory,
+                ..
+            },
+        ) => show_verdict(rt, *answer, memory.as_slice()),
         Call::Run(run) => show_run(rt, run),
         Call::Write(write) => show_write(rt, write),
+        // a call that was not made has nothing to show
+        _ => Ok(()),
     }
 }

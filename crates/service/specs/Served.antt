@@ -47,6 +47,14 @@ pub record WriteServed (p : Plain) (b a : write.Write) (q : Plain) : Type 0 wher
   pub answer : WithAnswer a.answer (λ r. WriteMade p.standing b.at (vec_items b.buffer) r (vec_items a.buffer))
   pub held : q ≡ p
 
+-- the calls of a list, from p on, after which q is held
+module _ {C : Type 0} (Made : Plain → C → C → Plain → Type 0) where
+  abbrev pub Lived : Plain → List C → List C → Plain → Type 0
+  Lived p [] [] q = q ≡ p
+  Lived p [] (a ∷ after) q = ⊥
+  Lived p (b ∷ before) [] q = ⊥
+  Lived p (b ∷ before) (a ∷ after) q = (m : Plain) × Made p b a m × Lived m before after q
+
 module _ {V S H F Z : Type 0} (K : Arithmetic V) (E : Answers S V) (state : H → S) (lent : H → List ℕ) (cells : F → List V) (places : Z → Source → (ℕ → ℕ → Bool) → ℕ → List place.Place) where
   -- a call of any of the five
   abbrev pub Made : Plain → call.Call V H F Z → call.Call V H F Z → Plain → Type 0
@@ -56,14 +64,7 @@ module _ {V S H F Z : Type 0} (K : Arithmetic V) (E : Answers S V) (state : H �
   Made p (Run b) after q = (a : run.Run V H F) × (after ≡ Run a) × RunServed K E state lent cells p b a q
   Made p (Write b) after q = (a : write.Write) × (after ≡ Write a) × WriteServed p b a q
 
-  -- the calls of a list, from p on, after which q is held
-  abbrev pub Lived : Plain → List (call.Call V H F Z) → List (call.Call V H F Z) → Plain → Type 0
-  Lived p [] [] q = q ≡ p
-  Lived p [] (a ∷ after) q = ⊥
-  Lived p (b ∷ before) [] q = ⊥
-  Lived p (b ∷ before) (a ∷ after) q = (m : Plain) × Made p b a m × Lived m before after q
-
   -- a whole life, from a new engine on
   pub record Served (before after : List (call.Call V H F Z)) : Type 0 where
     pub last : Plain
-    pub lived : Lived new before after last
+    pub lived : Lived Made new before after last

@@ -1,6 +1,7 @@
 // How each call is made on an engine.
 ghost use Rattle.engine.specs.Held.{held};
-ghost use Rattle.service.specs.Served.{LoadServed, OfferServed, PlaceServed, RunServed, WriteServed, Made};
+ghost use Rattle.engine.specs.Plain.{Plain};
+ghost use Rattle.service.specs.Served.{LoadServed, OfferServed, PlaceServed, RunServed, WriteServed, Made as CallMade};
 
 use crate::call::{Call, Load, Offer, Place, Run, Write};
 use engine::state::Engine;
@@ -9,34 +10,42 @@ use values::frame::Frame;
 use values::host::Host;
 use values::kind::Kind;
 
-impl Load {
-    pub fn make(&mut self, engine: &mut Engine)
-        ensures { LoadServed (held engine.old) self.old self.new (held engine.new) }
-    {
+// One call: what it is before it is made, after it, and what is held then.
+pub trait Step {
+    ghost Made: { Plain → Self → Self → Plain → Type 0 };
+
+    fn make(&mut self, engine: &mut Engine)
+        ensures { Made (held engine.old) self.old self.new (held engine.new) };
+}
+
+impl Step for Load {
+    ghost Made = { LoadServed };
+
+    fn make(&mut self, engine: &mut Engine) {
         self.answer = Some(engine.load(&self.text));
     }
 }
 
-impl Offer {
-    pub fn make(&mut self, engine: &mut Engine)
-        ensures { OfferServed (held engine.old) self.old self.new (held engine.new) }
-    {
+impl Step for Offer {
+    ghost Made = { OfferServed };
+
+    fn make(&mut self, engine: &mut Engine) {
         self.answer = Some(engine.offer(&self.text, &mut self.memory));
     }
 }
 
-impl<P: Placer> Place<P> {
-    pub fn make(&mut self, engine: &mut Engine)
-        ensures { PlaceServed P.Placer.places (held engine.old) self.old self.new (held engine.new) }
-    {
+impl<P: Placer> Step for Place<P> {
+    ghost Made = { PlaceServed P.Placer.places };
+
+    fn make(&mut self, engine: &mut Engine) {
         self.answer = Some(engine.place(&self.placer, self.registers, &mut self.memory));
     }
 }
 
-impl<V: Kind, H: Host<Value = V>, F: Frame<Value = V>> Run<V, H, F> {
-    pub fn make(&mut self, engine: &Engine)
-        ensures { RunServed V.Kind.arithmetic H.Host.means H.Host.state H.Host.lent F.Frame.cells (held engine.now) self.old self.new (held engine.now) }
-    {
+impl<V: Kind, H: Host<Value = V>, F: Frame<Value = V>> Step for Run<V, H, F> {
+    ghost Made = { RunServed V.Kind.arithmetic H.Host.means H.Host.state H.Host.lent F.Frame.cells };
+
+    fn make(&mut self, engine: &mut Engine) {
         self.answer = Some(engine.run(
             self.budget,
             &self.args,
@@ -47,26 +56,25 @@ impl<V: Kind, H: Host<Value = V>, F: Frame<Value = V>> Run<V, H, F> {
     }
 }
 
-impl Write {
-    pub fn make(&mut self, engine: &Engine)
-        ensures { WriteServed (held engine.now) self.old self.new (held engine.now) }
-    {
+impl Step for Write {
+    ghost Made = { WriteServed };
+
+    fn make(&mut self, engine: &mut Engine) {
         self.answer = Some(engine.write(&mut self.buffer, self.at));
     }
 }
 
-// Makes a call of any of the five.
-pub fn make<V: Kind, H: Host<Value = V>, F: Frame<Value = V>, P: Placer>(
-    engine: &mut Engine,
-    call: &mut Call<V, H, F, P>,
-)
-    ensures { Made V.Kind.arithmetic H.Host.means H.Host.state H.Host.lent F.Frame.cells P.Placer.places (held engine.old) call.old call.new (held engine.new) }
-{
-    match call {
-        Call::Load(call) => call.make(engine),
-        Call::Offer(call) => call.make(engine),
-        Call::Place(call) => call.make(engine),
-        Call::Run(call) => call.make(engine),
-        Call::Write(call) => call.make(engine),
+// A call of any of the five.
+impl<V: Kind, H: Host<Value = V>, F: Frame<Value = V>, P: Placer> Step for Call<V, H, F, P> {
+    ghost Made = { CallMade V.Kind.arithmetic H.Host.means H.Host.state H.Host.lent F.Frame.cells P.Placer.places };
+
+    fn make(&mut self, engine: &mut Engine) {
+        match self {
+            Call::Load(call) => call.make(engine),
+            Call::Offer(call) => call.make(engine),
+            Call::Place(call) => call.make(engine),
+            Call::Run(call) => call.make(engine),
+            Call::Write(call) => call.make(engine),
+        }
     }
 }

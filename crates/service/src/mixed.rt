@@ -1,67 +1,15 @@
-// A list of calls that mixes kinds of value, hosts, frames and placers, made on one new engine.
-ghost use Rattle.std.specs.Prelude.{◌≡◌, OnOk};
+// A list of calls, of one type or of a type each, made on one new engine.
+ghost use Rattle.std.specs.Prelude.{◌≡◌, OnErr, OnOk};
 ghost use Rattle.engine.specs.Held.{held};
 ghost use Rattle.engine.specs.Plain.{Plain, new};
-ghost use Rattle.service.specs.Served.{LoadServed, OfferServed, PlaceServed, RunServed, WriteServed};
+ghost use Rattle.service.specs.Served.{Lived};
 ghost use Rattle.service.specs.Mixed.{ThenLived};
 
-use crate::call::{Load, Offer, Place, Run, Write};
+use crate::making::Step;
 use engine::state::Engine;
-use places::placer::Placer;
 use std::alloc::{AllocError, Global};
-use values::frame::Frame;
-use values::host::Host;
-use values::kind::Kind;
 
-// One call: what it is before it is made, after it, and what is held then.
-pub trait Step {
-    ghost Made: { Plain → Self → Self → Plain → Type 0 };
-
-    fn make(&mut self, engine: &mut Engine)
-        ensures { Made (held engine.old) self.old self.new (held engine.new) };
-}
-
-impl Step for Load {
-    ghost Made = { LoadServed };
-
-    fn make(&mut self, engine: &mut Engine) {
-        self.make(engine);
-    }
-}
-
-impl Step for Offer {
-    ghost Made = { OfferServed };
-
-    fn make(&mut self, engine: &mut Engine) {
-        self.make(engine);
-    }
-}
-
-impl<P: Placer> Step for Place<P> {
-    ghost Made = { PlaceServed P.Placer.places };
-
-    fn make(&mut self, engine: &mut Engine) {
-        self.make(engine);
-    }
-}
-
-impl<V: Kind, H: Host<Value = V>, F: Frame<Value = V>> Step for Run<V, H, F> {
-    ghost Made = { RunServed V.Kind.arithmetic H.Host.means H.Host.state H.Host.lent F.Frame.cells };
-
-    fn make(&mut self, engine: &mut Engine) {
-        self.make(engine);
-    }
-}
-
-impl Step for Write {
-    ghost Made = { WriteServed };
-
-    fn make(&mut self, engine: &mut Engine) {
-        self.make(engine);
-    }
-}
-
-// A list of calls: `End`, or a call and `Then` the rest.
+// A list of calls, made in order.
 pub trait Steps {
     ghost Lived: { Plain → Self → Self → Plain → Type 0 };
 
@@ -69,6 +17,18 @@ pub trait Steps {
         ensures { Lived (held engine.old) self.old self.new (held engine.new) };
 }
 
+// Calls of one type.
+impl<C: Step> Steps for Vec<C> {
+    ghost Lived = { λ p b a q. Lived C.Step.Made p b.items a.items q };
+
+    fn make_all(&mut self, engine: &mut Engine) {
+        for call in self.iter_mut() {
+            call.make(engine);
+        }
+    }
+}
+
+// Calls of a type each: `End`, or a call and `Then` the rest.
 #[derive(Drop)]
 pub struct End;
 
@@ -93,9 +53,10 @@ impl<C: Step, R: Steps> Steps for Then<C, R> {
     }
 }
 
-// Makes the calls in order on one new engine.
+// Makes the calls in order on one new engine; without memory for the engine none is made.
 pub fn serve_all<S: Steps>(heap: Global, steps: &mut S) -> Result<(), AllocError>
-    ensures { OnOk result ((q : Plain) × S.Steps.Lived new steps.old steps.new q) }
+    ensures served { OnOk result ((q : Plain) × S.Steps.Lived new steps.old steps.new q) }
+    ensures refused { OnErr result (steps.new ≡ steps.old) }
 {
     let mut engine = Engine::new(heap)?;
     steps.make_all(&mut engine);

@@ -1,10 +1,9 @@
-// A list of calls, made on one new engine.
+// A list of the five calls, made on one new engine.
 ghost use Rattle.std.specs.Prelude.{◌≡◌, OnErr, OnOk};
 ghost use Rattle.service.specs.Served.{Served};
 
 use crate::call::Call;
-use crate::making::make;
-use engine::state::Engine;
+use crate::mixed::serve_all;
 use places::placer::Placer;
 use std::alloc::{AllocError, Global};
 use values::frame::Frame;
@@ -19,9 +18,5 @@ pub fn serve<V: Kind, H: Host<Value = V>, F: Frame<Value = V>, P: Placer>(
     ensures served { OnOk result (Served V.Kind.arithmetic H.Host.means H.Host.state H.Host.lent F.Frame.cells P.Placer.places calls.old.items calls.new.items) }
     ensures refused { OnErr result (calls.new.items ≡ calls.old.items) }
 {
-    let mut engine = Engine::new(heap)?;
-    for call in calls.iter_mut() {
-        make(&mut engine, call);
-    }
-    Ok(())
+    serve_all(heap, calls)
 }

@@ -47,11 +47,11 @@ mod tests {
         };
         let blanks = Run {
             budget: 9,
-            args: vec![in heap; BlankWord::Blank]?,
+            args: vec![in heap; BlankWord(None)]?,
             host: Script::new(Vec::new(heap)),
             frame: Banked {
-                low: vec![in heap; BlankWord::Blank; 2]?,
-                high: vec![in heap; BlankWord::Blank; 4]?,
+                low: vec![in heap; BlankWord(None); 2]?,
+                high: vec![in heap; BlankWord(None); 4]?,
             },
             list: Vec::new(heap),
             answer: None,

@@ -12,7 +12,7 @@ use Rattle.allocation.specs.declared.line.Main.TheVariants.{Skip}
 use Rattle.values.specs.Kinds.{Arithmetic}
 use Rattle.values.specs.Hosts.{Answers}
 use Rattle.machine.specs.declared.outcome.Entry.{Entry}
-use Rattle.machine.specs.declared.outcome.Taken.{Taken}
+use Rattle.std.specs.declared.ops.ControlFlow.{ControlFlow}
 use Rattle.machine.specs.Machine.{Log, Ending, after, carried, Cells, Effect, effect, read, store, write_all, move_one, move_all, full, start, allocated_step, allocated_from, entered}
 use Rattle.machine.proofs.Rules.{drive_full, drive_step}
 use Rattle.soundness.specs.Law.{FewMade, FewMovesANode}
@@ -31,9 +31,9 @@ line_few s a same few n =
     ⊎_elim (λ h. few n (omega arith)) (λ h. subst (λ (l : Line). line_moves l ≤ 3) (sym (get_or_past a.lines n (record { ins = []; main = Skip; outs = []; alts = [] }) h)) (omega arith)) (cases_lt n (length a.lines))
 
 module _ {V S : Type 0} (K : Arithmetic V) (E : Answers S V) where
-  carried_few : (n : Node) (t : Taken V) (ts : List (Entry V)) (h : S) (p : Log V S) (c : Cells V) (F : Bool → Cells V) (on : Log V S → Cells V → Ending V S (Cells V)) → c.moves ≤ 8 + 3 * (p.count + 1) → ((e : Bool) (q : Log V S) → q.count ≡ p.count + 1 → FewMade (on q (F e))) → FewMade (after (carried n t ts h p c F) on)
-  carried_few n (Taken.Edge e) ts h p c F on few more = more e _ refl
-  carried_few n (Taken.End v) ts h p c F on few more = few
+  carried_few : (n : Node) (t : ControlFlow V Bool) (ts : List (Entry V)) (h : S) (p : Log V S) (c : Cells V) (F : Bool → Cells V) (on : Log V S → Cells V → Ending V S (Cells V)) → c.moves ≤ 8 + 3 * (p.count + 1) → ((e : Bool) (q : Log V S) → q.count ≡ p.count + 1 → FewMade (on q (F e))) → FewMade (after (carried n t ts h p c F) on)
+  carried_few n (ControlFlow.Continue e) ts h p c F on few more = more e _ refl
+  carried_few n (ControlFlow.Break v) ts h p c F on few more = few
 
   module _ (s : Source) (a : Allocation) (same : length a.lines ≡ length s.nodes) (few : (n : ℕ) → n < length s.nodes → line_moves (line_of a n) ≤ 3) (room : ℕ) where
     few_from : (left : ℕ) (p : Log V S) (c : Cells V) → c.moves ≤ 8 + 3 * p.count → FewMade (allocated_from K E s a left room p c)

@@ -21,7 +21,7 @@ use Rattle.values.specs.Kinds.{Arithmetic}
 use Rattle.values.specs.Hosts.{Answers}
 use Rattle.machine.specs.declared.outcome.Outcome.{Outcome}
 use Rattle.machine.specs.declared.outcome.Entry.{Entry}
-use Rattle.machine.specs.declared.outcome.Taken.{Taken}
+use Rattle.std.specs.declared.ops.ControlFlow.{ControlFlow}
 use Rattle.machine.specs.Machine.{Log, Ending, after as then_drive, Effect, effect, passed, carried, Cells, assign, store, read, write_all, move_all, full, source_step, source_from, start, given, allocated_step, allocated_from, entered}
 use Rattle.machine.specs.Steps.{main_effect}
 use Rattle.machine.proofs.Ranges.{sound_next}
@@ -143,7 +143,7 @@ agree_result K k n (Some d) (Some t) O x f cs r s pass under h =
 
 module _ {V S : Type 0} (K : Arithmetic V) (E : Answers S V) where
   -- the edge that a node takes is one of its edges
-  edge_among : (n : Node) (vs : List V) (h : S) (e : Bool) → (effect K E (Some (action n)) vs h).taken ≡ Taken.Edge e → (F : Bool → Bool) → F e ≡ true → any F (edges n) ≡ true
+  edge_among : (n : Node) (vs : List V) (h : S) (e : Bool) → (effect K E (Some (action n)) vs h).taken ≡ ControlFlow.Continue e → (F : Bool → Bool) → F e ≡ true → any F (edges n) ≡ true
   edge_among (Const d k next) vs h e t F q = let same : true ≡ e = cc in or_left (F true) false (ap F same ∙ q)
   edge_among (Mov d a next) vs h e t F q = let same : true ≡ e = cc in or_left (F true) false (ap F same ∙ q)
   edge_among (Binary o d a b next) vs h e t F q = let same : true ≡ e = cc in or_left (F true) false (ap F same ∙ q)
@@ -164,9 +164,9 @@ module _ {V S : Type 0} (K : Arithmetic V) (E : Answers S V) where
   EndedAlike {A} {B} R = (v : V) (q : Log V S) (x : A) (y : B) → R (record { outcome = Outcome.Ended v; log = q; memory = x }) (record { outcome = Outcome.Ended v; log = q; memory = y })
 
   -- one node carried out on both sides, with the same effect
-  carried_alike : {A B : Type 0} (R : Ending V S A → Ending V S B → Type 0) → EndedAlike R → (n : Node) (t : Taken V) (ts : List (Entry V)) (h : S) (p : Log V S) (x : A) (y : B) (F : Bool → A) (G : Bool → B) (i : Log V S → A → Ending V S A) (j : Log V S → B → Ending V S B) → ((e : Bool) → t ≡ Taken.Edge e → R (i (passed (successor n e) ts h p) (F e)) (j (passed (successor n e) ts h p) (G e))) → R (then_drive (carried n t ts h p x F) i) (then_drive (carried n t ts h p y G) j)
-  carried_alike R re n (Taken.Edge e) ts h p x y F G i j on = on e refl
-  carried_alike R re n (Taken.End v) ts h p x y F G i j on = re v (passed p.node ts h p) x y
+  carried_alike : {A B : Type 0} (R : Ending V S A → Ending V S B → Type 0) → EndedAlike R → (n : Node) (t : ControlFlow V Bool) (ts : List (Entry V)) (h : S) (p : Log V S) (x : A) (y : B) (F : Bool → A) (G : Bool → B) (i : Log V S → A → Ending V S A) (j : Log V S → B → Ending V S B) → ((e : Bool) → t ≡ ControlFlow.Continue e → R (i (passed (successor n e) ts h p) (F e)) (j (passed (successor n e) ts h p) (G e))) → R (then_drive (carried n t ts h p x F) i) (then_drive (carried n t ts h p y G) j)
+  carried_alike R re n (ControlFlow.Continue e) ts h p x y F G i j on = on e refl
+  carried_alike R re n (ControlFlow.Break v) ts h p x y F G i j on = re v (passed p.node ts h p) x y
 
   -- one node on both sides, with `On` for what comes after it
   module _ (outs : Bool → List Move) (k : ℕ) (O : ℕ × ℕ → Bool) (p : Log V S) (f : ℕ → V) (g : Cells V) (i : Log V S → (ℕ → V) → Ending V S (ℕ → V)) (j : Log V S → Cells V → Ending V S (Cells V)) (R : Ending V S (ℕ → V) → Ending V S (Cells V) → Type 0) (re : EndedAlike R) where

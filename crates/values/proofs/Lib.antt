@@ -1,1 +1,1 @@
-pub mod Cells
+mod Cells

@@ -1,5 +1,5 @@
 -- Words of 32 bits, and words that may be blank.
-use Rattle.std.specs.Prelude.{ℕ, ◌+◌, ◌-◌, ◌*◌, ◌%◌, ◌^◌, min, max, Bool, false, ◌==◌, nat_le, nat_lt}
+use Rattle.std.specs.Prelude.{ℕ, ◌+◌, ◌-◌, ◌*◌, ◌%◌, ◌^◌, min, max, Bool, false, Some, None, Option, ◌==◌, nat_le, nat_lt}
 use Rattle.source.specs.declared.node.Operation.{Operation}
 use Rattle.source.specs.declared.node.Operation.TheVariants.{Add, Sub, Mul, Min, Max}
 use Rattle.source.specs.declared.node.Condition.{Condition}
@@ -25,16 +25,16 @@ abbrev pub words : Arithmetic Word
 words = record { constant = λ k. record { 0 = k }; operate = λ o a b. record { 0 = operate_numbers o a.0 b.0 }; test = λ c a b. test_numbers c a.0 b.0 }
 
 -- with a blank, an operation gives blank
-abbrev pub operate_blanks : Operation → BlankWord → BlankWord → BlankWord
-operate_blanks o BlankWord.Blank b = BlankWord.Blank
-operate_blanks o (BlankWord.Word a) BlankWord.Blank = BlankWord.Blank
-operate_blanks o (BlankWord.Word a) (BlankWord.Word b) = BlankWord.Word (words.operate o a b)
+abbrev pub operate_options : Operation → Option Word → Option Word → Option Word
+operate_options o None b = None
+operate_options o (Some a) None = None
+operate_options o (Some a) (Some b) = Some (words.operate o a b)
 
 -- with a blank, a test says no
-abbrev pub test_blanks : Condition → BlankWord → BlankWord → Bool
-test_blanks c BlankWord.Blank b = false
-test_blanks c (BlankWord.Word a) BlankWord.Blank = false
-test_blanks c (BlankWord.Word a) (BlankWord.Word b) = words.test c a b
+abbrev pub test_options : Condition → Option Word → Option Word → Bool
+test_options c None b = false
+test_options c (Some a) None = false
+test_options c (Some a) (Some b) = words.test c a b
 
 abbrev pub blank_words : Arithmetic BlankWord
-blank_words = record { constant = λ k. BlankWord.Word (words.constant k); operate = operate_blanks; test = test_blanks }
+blank_words = record { constant = λ k. record { 0 = Some (words.constant k) }; operate = λ o a b. record { 0 = operate_options o a.0 b.0 }; test = λ c a b. test_options c a.0 b.0 }

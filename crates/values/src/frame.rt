@@ -32,11 +32,13 @@ fn write_row<V: Kind>(row: &mut Vec<V>, i: usize, value: V) -> bool
     ensures said { result ≡ nat_lt i (length row.old.items) }
     ensures row { row.new.items ≡ slice_set row.old.items i value }
 {
-    if i < row.len() {
-        row[i] = value;
-        return true;
+    match row.get_mut(i) {
+        Some(cell) => {
+            *cell = value;
+            true
+        }
+        None => false,
     }
-    false
 }
 
 // Where cell i stands in the second of two rows, end to end; none where it is one of the n cells of the first.

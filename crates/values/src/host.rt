@@ -1,9 +1,10 @@
 // Hosts, which answer the calls of a run.
-ghost use Rattle.std.specs.Prelude.{◌≡◌, ℕ, List, [], ◌∷◌, drop, MatchOption};
+ghost use Rattle.std.specs.Prelude.{◌≡◌, ◌≤◌, ℕ, List, [], ◌∷◌, length, drop};
 ghost use Rattle.values.specs.Hosts.{Answers, script, seats};
 
 use crate::kind::Kind;
 use crate::word::Word;
+use std::marker::Model;
 
 // A host of one kind of value: its state, and for each state, function and two values, one answer and one next state.
 pub trait Host {
@@ -28,39 +29,31 @@ pub trait Host {
 #[derive(Drop)]
 pub struct Script<V> {
     values: Vec<V>,
+    // the place of the next: the library's `into_iter` keeps one too, but lends no slice of what is left
     at: usize,
+}
+
+// A script is the values that are left.
+impl<V> Model for Script<V> {
+    ghost Value = { List V };
+
+    ghost view = { λ s. drop s.at s.values.items };
+
+    ghost invariant = { λ s. s.at ≤ length s.values.items };
 }
 
 impl<V> Script<V> {
     pub fn new(values: Vec<V>) -> Self
-        ensures { drop result.at result.values.items ≡ values.items }
+        ensures { result ≡ values.items }
     {
         Script { values, at: 0 }
     }
 
     // The values that are left.
     pub fn left(&self) -> &[V]
-        ensures { result.now ≡ drop self.now.at self.now.values.items }
+        ensures { result.now ≡ self.now }
     {
-        if self.at < self.values.len() {
-            &self.values[self.at..]
-        } else {
-            &[]
-        }
-    }
-}
-
-impl<V: Copy> Script<V> {
-    // The next of the values that are left.
-    fn take_next(&mut self) -> Option<V>
-        ensures { MatchOption result ((drop self.old.at self.old.values.items ≡ []) × (drop self.new.at self.new.values.items ≡ [])) (λ x. drop self.old.at self.old.values.items ≡ x ∷ drop self.new.at self.new.values.items) }
-    {
-        if self.at < self.values.len() {
-            let value = self.values[self.at];
-            self.at += 1;
-            return Some(value);
-        }
-        None
+        &self.values[self.at..]
     }
 }
 
@@ -70,15 +63,18 @@ impl<V: Kind> Host for Script<V> {
     // the values that are left
     ghost State = { List V };
 
-    ghost state = { λ s. drop s.at s.values.items };
+    ghost state = { λ s. s };
 
     ghost means = { script V.Kind.arithmetic };
 
     ghost lent = { λ _. [] };
 
     fn ask(&mut self, _function: u8, _a: V, _b: V) -> V {
-        match self.take_next() {
-            Some(value) => value,
+        match self.left().first().copied() {
+            Some(value) => {
+                self.at += 1;
+                value
+            }
             None => V::constant(0),
         }
     }
