@@ -288,6 +288,7 @@ impl Reader {
         ensures moves { (h : Heading) → state self.old ≡ fresh h → h.registers + h.slots ≤ 64 → OnOk result (length (moves_in self.new.tables) ≡ move_count (allocation_of self.new.tables)) }
     {
         let mut lines = lines;
+        // A `for` over `lines.by_ref()` loses, in the proof, where `lines` is after it.
         while let Some(line) = lines.next() {
             self.read_one(&line, nodes)?;
         }

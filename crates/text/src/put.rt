@@ -97,12 +97,7 @@ pub fn line_fits(row: &[Piece], room: usize) -> Option<usize>
 {
     let mut left = room;
     for p in row {
-        let need = piece_len(*p);
-        if need >= left {
-            return None;
-        }
-        left -= need;
-        left -= 1;
+        left = left.checked_sub(piece_len(*p))?.checked_sub(1)?;
     }
     Some(left)
 }
