@@ -51,22 +51,18 @@ impl Engine {
     pub fn offer(&mut self, text: &[u8], memory: &mut [u64]) -> Result<u32, Refusal>
         ensures { OfferMade (held self.old) text.now memory.old memory.new result (held self.new) }
     {
-        let Some(heading) = self.loader.heading() else {
+        let Some(loaded) = self.loader.source() else {
             return Err(Refusal::NoSource);
         };
-        match offer(&self.loader, &mut self.reader, text, memory) {
-            Ok(count) => {
-                self.standing = None;
-                self.reader.exchange(&mut self.tables);
-                self.source.copy_from(self.loader.table());
-                self.standing = Some(Standing {
-                    source: heading,
-                    placed: false,
-                });
-                Ok(u32::from(count))
-            }
-            Err(refusal) => Err(refusal),
-        }
+        let count = offer(&self.loader, &mut self.reader, text, memory)?;
+        self.standing = None;
+        self.reader.exchange(&mut self.tables);
+        self.source.copy_from(loaded.table);
+        self.standing = Some(Standing {
+            source: loaded.heading,
+            placed: false,
+        });
+        Ok(u32::from(count))
     }
 
     // Places the loaded source in this many registers, and makes the published allocation stand; refused, it leaves what stood.
@@ -78,22 +74,17 @@ impl Engine {
     ) -> Result<u32, Refusal>
         ensures { PlaceMade (P.Placer.places placer.now) (held self.old) registers memory.old memory.new result (held self.new) }
     {
-        let Some(heading) = self.loader.heading() else {
+        let Some(loaded) = self.loader.source() else {
             return Err(Refusal::Unplaced);
         };
-        match place(&self.loader, &mut self.draft, placer, registers, memory) {
-            Ok(count) => {
-                self.standing = None;
-                swap(&mut self.draft, &mut self.tables);
-                let accepted = self.loader.table();
-                self.source.copy_from(accepted);
-                self.standing = Some(Standing {
-                    source: heading,
-                    placed: true,
-                });
-                Ok(count)
-            }
-            Err(refused) => Err(refused),
-        }
+        let count = place(&self.loader, &mut self.draft, placer, registers, memory)?;
+        self.standing = None;
+        swap(&mut self.draft, &mut self.tables);
+        self.source.copy_from(loaded.table);
+        self.standing = Some(Standing {
+            source: loaded.heading,
+            placed: true,
+        });
+        Ok(count)
     }
 }

@@ -8,12 +8,13 @@ use Rattle.engine.proofs.state.Engine.place.Goals as goal
 
 pub returns-in_default : goal.returns-in_default
 returns-in_default g c =
-    none_placed (g.P.Placer.places c.args.placer.now) (held c.args.self.now) c.args.registers c.args.memory.now (ap (option_map (λ h. source_in h c.args.self.now.loader.tables.nodes)) (sym c.in_default.ensures))
+    none_placed (g.P.Placer.places c.args.placer.now) (held c.args.self.now) c.args.registers c.args.memory.now (ap (option_map (λ h. source_in h c.args.self.now.loader.tables.nodes)) c.in_default.ensures)
 
-pub invariant_of-self-in-Ok : goal.invariant_of-self-in-Ok
-invariant_of-self-in-Ok g c =
+pub invariant_of-self-in_ok-count : goal.invariant_of-self-in_ok-count
+invariant_of-self-in_ok-count g c =
     let e = c.args.self.now in
-    let h = c.in-Some.heading in record {
-      accepted = stands h e.loader.tables.nodes c.copy_from.new.self c.place.new.spare c.swap.new.y _ (c.copy_from.ensures ∙ ap nodes_in c.table-accepted.ensures.table) c.swap.ensures.y_after
-          (place_stands (g.P.Placer.places c.args.placer.now) e.loader.loaded h e.loader.tables.nodes (live_words e.loader) c.args.registers c.args.memory.now _ _ c.in-Ok.count (sym c.in-Some.ensures) c.in-Ok.ensures);
+    let shows = c.in-Some.ensures in
+    let h = c.in-Some.loaded.heading in record {
+      accepted = stands h e.loader.tables.nodes c.copy_from.new.self c.place.new.spare c.swap.new.y _ (c.copy_from.ensures ∙ ap nodes_in shows.table) c.swap.ensures.y_after
+          (place_stands (g.P.Placer.places c.args.placer.now) e.loader.loaded h e.loader.tables.nodes (live_words e.loader) c.args.registers c.args.memory.now _ _ c.in_ok-count.count shows.heading c.in_ok-count.ensures);
     }
