@@ -4,7 +4,7 @@ use Rattle.std.specs.Prelude.{◌≡◌, ℕ, ◌+◌, ◌<◌, ◌≤◌, Bool,
 use Rattle.sets.specs.Masks.{Below}
 use Rattle.source.specs.Nodes.{node_at}
 use Rattle.source.specs.declared.node.Node.{Node}
-use Rattle.allocation.specs.Allocations.{target, origins, line_at}
+use Rattle.allocation.specs.Allocations.{Line, target, origins, line_at}
 use Rattle.allocation.specs.Ranges.{row_at, move_at}
 use Rattle.allocation.specs.declared.line.Move.{Move}
 use Rattle.allocation.specs.declared.line.Main.{Main}
@@ -40,6 +40,10 @@ pub record RowReach (len : ℕ) (row : Row) : Type 0 where
 -- the sets before all nodes, by themselves, over tables
 abbrev pub step_in : List Node → List Row → List Move → (ℕ → ℕ × ℕ → Bool) → ℕ → ℕ × ℕ → Bool
 step_in nodes rows moves X n = before X (node_at nodes n) (line_at moves (row_at rows n))
+
+-- the line of node n of a candidate, and its equations
+abbrev pub line_in : Candidate → ℕ → Line
+line_in c n = line_at c.moves.now (row_at c.rows.now n)
 
 abbrev pub step_of : Candidate → (ℕ → ℕ × ℕ → Bool) → ℕ → ℕ × ℕ → Bool
 step_of c = step_in c.nodes.now c.rows.now c.moves.now

@@ -1,5 +1,5 @@
 -- The verdict on an allocation.
-use Rattle.std.specs.Prelude.{◌≡◌, ℕ, ◌*◌, ◌<◌, ◌≤◌, Bool, ◌⊎◌, List, length, slice_index}
+use Rattle.std.specs.Prelude.{◌≡◌, ℕ, ◌*◌, ◌<◌, ◌≤◌, Bool, ◌⊎◌, List, length, Result, MatchResult, slice_index}
 use Rattle.allocation.specs.Lines.{line_of}
 use Rattle.refusal.specs.declared.Refusal.{Refusal}
 use Rattle.refusal.specs.declared.Refusal.TheVariants.{ShortMemory, Mismatch}
@@ -83,6 +83,11 @@ module _ (s : Source) (a : Allocation) (size : ℕ) where
     -- refused by the first question that says no
     abbrev pub Refused : Refusal → Type 0
     Refused r = TooShort r ⊎ (Mismatched r ⊎ (RefusedAtNode r ⊎ RefusedAtEntry r))
+
+-- the answer of a check, whose work memory held `words` and holds words': accepted, or refused by r
+abbrev pub Judged : {C : Type 0} → Source → Allocation → List ℕ → List ℕ → Result C Refusal → Type 0
+Judged s a words words' r =
+    MatchResult r (λ _. Accepted s a (length words) (memory_sets words')) (Refused s a (length words) (memory_sets words'))
 
 -- the words of work memory before a check and after it: once 31 and 32 are yes, the least solution and, past it, the
 -- words that were there; else all the words that were there

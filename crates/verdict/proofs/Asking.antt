@@ -112,6 +112,17 @@ module _ (d : Option ℕ) (mask full : ℕ) (is : (v : ℕ) → bit mask v ≡ n
   pub never_set_allowed : (rest : ℕ) → ((v : ℕ) → bit rest v ≡ (bit full v && not (bit mask v))) → Allows (replicate 64 rest) (never_set d)
   never_set_allowed rest r e l v = all_of rest e l ∙ others_is rest e.1 (r e.1) v
 
+-- what is found outside of what 33, or 34, allows is what it forbids
+module _ (row : List ℕ) (long : length row ≡ 64) (fits : (k : ℕ) → get_or row k 0 < 2 ^ 64) (d : Option ℕ) (mask full m : ℕ) (at : m < 64)
+    (is : (v : ℕ) → bit mask v ≡ names d v) (all : (v : ℕ) → bit full v ≡ (ltb v 64 && ltb v 64)) (allowed : List ℕ) (r : Option Equation) (f : Finds (held row) (λ e. not (held allowed e)) r) where
+  pub finds_elsewhere : (rest : ℕ) → ((v : ℕ) → bit rest v ≡ (bit full v && not (bit mask v))) → allowed ≡ set (replicate 64 rest) m full → Finds (held row) (elsewhere d m) r
+  finds_elsewhere rest others e =
+      finds_by row allowed (elsewhere d m) r long fits (subst (λ (ws : List ℕ). Allows ws (elsewhere d m)) (sym e) (elsewhere_allowed d mask full is all full rest m at all others)) f
+
+  pub finds_overwritten : allowed ≡ set (replicate 64 full) m mask → Finds (held row) (overwritten d m) r
+  finds_overwritten e =
+      finds_by row allowed (overwritten d m) r long fits (subst (λ (ws : List ℕ). Allows ws (overwritten d m)) (sym e) (overwritten_allowed d mask full is all m at)) f
+
 -- ---- the parameters, one after the other
 
 pub record Arrived (first i : ℕ) (allowed : List ℕ) : Type 0 where

@@ -1,5 +1,5 @@
 -- What the steps of a check answer.
-use Rattle.std.specs.Prelude.{ℕ, Bool, ◌&&◌, ◌⊎◌, List, length, Option, MatchOption}
+use Rattle.std.specs.Prelude.{ℕ, Bool, ◌&&◌, ◌⊎◌, List, length, Option, Result, MatchOption, MatchResult}
 use Rattle.refusal.specs.declared.Refusal.{Refusal}
 use Rattle.source.specs.declared.node.Node.{Node}
 use Rattle.allocation.specs.Allocations.{Line}
@@ -14,11 +14,11 @@ abbrev pub Finds : (ℕ × ℕ → Bool) → (ℕ × ℕ → Bool) → Option Eq
 Finds E p r = MatchOption r (Clear E p) (λ e. FirstEquation (λ d. E d && p d) (e.location, e.temporary))
 
 -- what questions say of E
-abbrev pub Answered : List Question → (ℕ × ℕ → Bool) → Option Refusal → Type 0
-Answered qs E r = MatchOption r (Passed qs E) (Failed qs E)
+abbrev pub Answered : List Question → (ℕ × ℕ → Bool) → Result (Unit {0}) Refusal → Type 0
+Answered qs E r = MatchResult r (λ _. Passed qs E) (Failed qs E)
 
 -- what the questions of all nodes and of the entry say of the sets X
-abbrev pub Asked : List Node → (ℕ → Line) → (ℕ → ℕ × ℕ → Bool) → List Move → Question → Option Refusal → Type 0
+abbrev pub Asked : List Node → (ℕ → Line) → (ℕ → ℕ × ℕ → Bool) → List Move → Question → Result (Unit {0}) Refusal → Type 0
 Asked nodes line X entry q r =
-    MatchOption r (PassedBelow nodes line X (length nodes) × Clear (back_moves entry (X 0)) q.forbids)
+    MatchResult r (λ _. PassedBelow nodes line X (length nodes) × Clear (back_moves entry (X 0)) q.forbids)
     (λ f. FailedNode nodes line X f ⊎ (PassedBelow nodes line X (length nodes) × Fails q (back_moves entry (X 0)) f))

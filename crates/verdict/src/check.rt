@@ -1,28 +1,18 @@
 // The check of an allocation against its source.
-ghost use Rattle.std.specs.Prelude.{◌≡◌, length, IfOk, Ok, Err, MatchOption, MatchResult};
+ghost use Rattle.std.specs.Prelude.{◌≡◌, length, IfOk};
 ghost use Rattle.source.specs.Tables.{source_in};
 ghost use Rattle.allocation.specs.Allocations.{allocation_of, moves_in};
 ghost use Rattle.allocation.specs.Lines.{move_count};
-ghost use Rattle.equations.specs.Equations.{memory_sets};
-ghost use Rattle.equations.specs.Verdict.{Fits, Accepted, Refused, Left};
+ghost use Rattle.equations.specs.Verdict.{Fits, Judged, Left};
 ghost use Rattle.equations.specs.Laws.{AcceptedExactly, OneVerdict};
 
 use crate::questions::{ask_all, find_mismatch};
 use allocation::tables::Tables;
+use equations::candidate::Candidate;
 use equations::flow::solve;
 use refusal::Refusal;
 use source::heading::Heading;
 use source::table::Table;
-
-// Refused, or granted with the count of moves.
-fn answer(refusal: Option<Refusal>, count: u16) -> Result<u16, Refusal>
-    ensures { MatchOption refusal (result ≡ Ok count) (λ f. result ≡ Err f) }
-{
-    match refusal {
-        Some(refusal) => Err(refusal),
-        None => Ok(count),
-    }
-}
 
 // Whether the allocation keeps every value where the source expects it: how many moves the tables hold, or the first
 // question that says no. Work memory is left with the sets before all nodes, once each main line matches its node.
@@ -33,32 +23,29 @@ pub fn check(
     tables: &Tables,
 ) -> Result<u16, Refusal>
     requires { Fits (source_in heading source.now) (allocation_of tables.now) }
-    ensures verdict { MatchResult result (λ _. Accepted (source_in heading source.now) (allocation_of tables.now) (length memory.old) (memory_sets memory.new)) (Refused (source_in heading source.now) (allocation_of tables.now) (length memory.old) (memory_sets memory.new)) }
+    ensures verdict { Judged (source_in heading source.now) (allocation_of tables.now) memory.old memory.new result }
     ensures count { IfOk result (λ count. count ≡ length (moves_in tables.now)) }
     ensures memory { Left (source_in heading source.now) (allocation_of tables.now) memory.old memory.new }
 {
     let nodes = source.nodes();
-    let rows = tables.rows();
-    let moves = tables.moves();
     if memory.len() / 64 < nodes.len() {
         return Err(Refusal::ShortMemory);
     }
-    if let Some(node) = find_mismatch(nodes, rows, moves) {
+    let moves = tables.moves();
+    let candidate = Candidate {
+        locations: tables.heading(),
+        parameters: heading.parameters,
+        entry: &moves[..tables.count_entry() as usize],
+        nodes,
+        rows: tables.rows(),
+        moves,
+    };
+    if let Some(node) = find_mismatch(&candidate) {
         return Err(Refusal::Mismatch { node });
     }
-    solve(nodes, rows, moves, memory);
-    let entry = &moves[..tables.count_entry() as usize];
-    let arrival = tables.heading().registers;
-    let refusal = ask_all(
-        nodes,
-        rows,
-        moves,
-        memory,
-        entry,
-        arrival,
-        heading.parameters,
-    );
-    answer(refusal, tables.place())
+    solve(&candidate, memory);
+    ask_all(&candidate, memory)?;
+    Ok(tables.place())
 }
 
 // The same, but it answers how many moves the allocation has: tables may hold others beside them.
@@ -69,14 +56,12 @@ pub fn check_counted(
     tables: &Tables,
 ) -> Result<u32, Refusal>
     requires { Fits (source_in heading source.now) (allocation_of tables.now) }
-    ensures verdict { MatchResult result (λ _. Accepted (source_in heading source.now) (allocation_of tables.now) (length memory.old) (memory_sets memory.new)) (Refused (source_in heading source.now) (allocation_of tables.now) (length memory.old) (memory_sets memory.new)) }
+    ensures verdict { Judged (source_in heading source.now) (allocation_of tables.now) memory.old memory.new result }
     ensures count { IfOk result (λ count. count ≡ move_count (allocation_of tables.now)) }
     ensures memory { Left (source_in heading source.now) (allocation_of tables.now) memory.old memory.new }
 {
-    match check(memory, heading, source, tables) {
-        Ok(_) => Ok(tables.count_moves()),
-        Err(refusal) => Err(refusal),
-    }
+    check(memory, heading, source, tables)?;
+    Ok(tables.count_moves())
 }
 
 // Once each main line matches its node, an allocation is accepted exactly when the least solution fails at no node and
