@@ -1,9 +1,8 @@
 -- The steps of colouring.
-use Rattle.std.proofs.Common.{◌≡◌, ℕ, zero, suc, ◌-◌, ◌%◌, ◌<◌, ◌≤◌, Bool, true, false, not, ◌&&◌, eqb, ltb, List, length, get_or, set, replicate, IfSome, Some, None, Option, sym, refl, ap, ◌∙◌, ap₂, subst, zero-add, arith, MatchOption}
+use Rattle.std.proofs.Common.{◌≡◌, ℕ, zero, suc, ◌-◌, ◌<◌, ◌≤◌, Bool, true, false, not, ◌&&◌, eqb, ltb, List, length, get_or, set, IfSome, Some, None, Option, sym, refl, ap, ◌∙◌, ap₂, subst, zero-add, arith, MatchOption}
 use Rattle.std.specs.List.{AllWithin, HoldsAt, range_with_len}
 use Rattle.std.proofs.lemmas.List.FromFn.{length-range_with_len, get_or-range_with_len}
 use mathlib.Core.Path.{fun_ext}
-use Rattle.std.proofs.lemmas.Bool.{and_left}
 use Rattle.sets.specs.Masks.{count, First}
 use Rattle.sets.proofs.Masks.{count_same, count_cut}
 use Rattle.places.specs.declared.place.Place.{Place}
@@ -13,13 +12,6 @@ use Rattle.colouring.specs.Chosen.{IsLowest}
 use Rattle.colouring.specs.Searches.{some_same, count_below, lowest_same, lowest_is, lowest_found, busiest_same, next_within}
 
 module _ (V K : ℕ) (conf : ℕ → ℕ → Bool) where
-  pub coloured_none : (left : ℕ → Bool) (turns : ℕ) → turns ≡ 0 → replicate V Home ≡ coloured V K conf turns left
-  coloured_none left turns e = ap (λ (n : ℕ). coloured V K conf n left) (sym e)
-
-  pub coloured_stop : (left : ℕ → Bool) (turns : ℕ) → None ≡ next V K conf left → replicate V Home ≡ coloured V K conf turns left
-  coloured_stop left zero e = refl
-  coloured_stop left (suc n) e = ap (λ (o : Option ℕ). after V K conf o (λ v. coloured V K conf n (less left v))) e
-
   pub coloured_step : (left rest : ℕ → Bool) (turns v : ℕ) (qs : List Place) → (turns ≡ 0 → ⊥) → Some v ≡ next V K conf left → ((u : ℕ) → rest u ≡ less left v u) → qs ≡ coloured V K conf (turns - 1) rest
       → set qs v (chosen V K conf qs v) ≡ coloured V K conf turns left
   coloured_step left rest zero v qs ne e f q = absurd (ne refl)
@@ -64,13 +56,6 @@ lowest_below n p o e = go o (subst (IsLowest n p) (sym e) (lowest_is n p))
     go None h = tt
     go (Some v) h = h.0
 
--- without one of those left, by its mask
-pub less_is : (left rest one : ℕ → Bool) (v : ℕ) → v < 64 → ((u : ℕ) → rest u ≡ (left u && not (one u))) → ((u : ℕ) → one u ≡ eqb u (v % 64)) → (u : ℕ) → rest u ≡ less left v u
-less_is left rest one v h e f u = e u ∙ ap (λ (b : Bool). left u && not b) (f u ∙ ap (eqb u) {x = v % 64} {y = v} (omega arith))
-
-pub less_past : (V v : ℕ) (left rest : ℕ → Bool) → ((u : ℕ) → rest u ≡ less left v u) → ((u : ℕ) → V ≤ u → left u ≡ false) → (u : ℕ) → V ≤ u → rest u ≡ false
-less_past V v left rest e past u h = e u ∙ and_left (left u) _ (past u h)
-
 -- the lowest register below K that is not held, by the set of those that are
 module _ (K : ℕ) (taken held' : ℕ → Bool) (is : (r : ℕ) → r < K → taken r ≡ held' r) where
   pub lowest_free_lem : (o : Option ℕ) → MatchOption o ((r : ℕ) → r < K → taken r ≡ true) (λ t. (t < K) × First (λ r. not (taken r)) t) → o ≡ lowest_of K (λ r. not (held' r))
@@ -79,10 +64,6 @@ module _ (K : ℕ) (taken held' : ℕ → Bool) (is : (r : ℕ) → r < K → ta
       go : (o : Option ℕ) → MatchOption o ((r : ℕ) → r < K → taken r ≡ true) (λ t. (t < K) × First (λ r. not (taken r)) t) → IsLowest K (λ r. not (taken r)) o
       go None h = λ r l. ap not (h r l)
       go (Some t) h = h
-
-  pub free_small : (o : Option ℕ) → K ≤ 14 → MatchOption o ((r : ℕ) → r < K → taken r ≡ true) (λ t. (t < K) × First (λ r. not (taken r)) t) → IfSome o (λ r. r < 256)
-  free_small None k h = tt
-  free_small (Some t) k h = omega (arith, h.0)
 
 -- ---- colouring asks only of temporaries below V
 

@@ -1,9 +1,9 @@
 -- The loops that fill tables.
-use Rattle.std.proofs.Common.{◌≡◌, ℕ, zero, suc, ◌+◌, ◌*◌, ◌<◌, ◌≤◌, Bool, true, false, cond, ◌&&◌, ltb, List, [], ◌∷◌, ◌++◌, map, length, take, sym, refl, ap, ◌∙◌, subst, append-nil, add-one, arith}
-use Rattle.std.proofs.lemmas.List.{length-append, length-map, length-take-le, take-append-le, take_all, map_more}
-use Rattle.source.specs.Nodes.{Sound, node_at}
+use Rattle.std.proofs.Common.{◌≡◌, ℕ, zero, suc, ◌+◌, ◌*◌, ◌<◌, ◌≤◌, Bool, true, false, cond, ◌&&◌, ltb, List, [], ◌∷◌, ◌++◌, map, length, take, sym, refl, ap, ◌∙◌, subst, add-one, arith}
+use Rattle.std.proofs.lemmas.List.{length-append, length-map, length-take-le, take-append-le, map_more}
+use Rattle.source.specs.Nodes.{node_at}
 use Rattle.source.specs.declared.node.Node.{Node}
-use Rattle.source.specs.declared.node.Node.TheVariants.{Const, Mov, Binary, Call, Branch, Return}
+use Rattle.source.specs.declared.node.Node.TheVariants.{Const}
 use Rattle.allocation.specs.Allocations.{Line, rows_in, moves_in, allocation_of, line_at}
 use Rattle.allocation.specs.Lines.{line_moves, lines_moves}
 use Rattle.allocation.specs.declared.heading.Heading.{Heading}
@@ -26,9 +26,6 @@ module _ (R : ℕ) (place : ℕ → ℕ) (live : ℕ → Bool) where
       go true xs ys zs q = ap (λ z. (place i ⇐ (R + i)) ∷ z) q
       go false xs ys zs q = q
 
-  pub entry_none : (t : Tables) → Added t t (entry_moves R place live 0 0)
-  entry_none t = record { heading = refl; rows = refl; entry = refl; moves = sym (append-nil (moves_in t)) }
-
   pub entry_open : (t u : Tables) (y : Layout) (P i : ℕ) → Open t y P → Added t u (entry_moves R place live 0 i) → i < P → Open u y 1
   entry_open t u y P i o a h = still_open t u y P 1 (entry_moves R place live 0 i) o a (omega (arith, entry_few R place live 0 i))
 
@@ -37,20 +34,9 @@ module _ (R : ℕ) (place : ℕ → ℕ) (live : ℕ → Bool) where
 
 -- the lines of one more node
 
-pub sound_more : (v n m : ℕ) (node : Node) → n ≤ m → Sound v n node → Sound v m node
-sound_more v n m (Const d k next) h s = (s.0, s.1, omega (arith, s.2))
-sound_more v n m (Mov d a next) h s = (s.0, s.1, omega (arith, s.2))
-sound_more v n m (Binary o d a b next) h s = (s.0, s.1, s.2, omega (arith, s.3))
-sound_more v n m (Call d f a b next) h s = (s.0, s.1, s.2, s.3, omega (arith, s.4))
-sound_more v n m (Branch c a b taken other) h s = (s.0, s.1, omega (arith, s.2), omega (arith, s.3))
-sound_more v n m (Return a) h s = s
-
 lines_moves-push : (ls : List Line) (l : Line) → lines_moves (ls ++ l ∷ []) ≡ lines_moves ls + line_moves l
 lines_moves-push [] l = omega arith
 lines_moves-push (x ∷ ls) l = omega (arith, lines_moves-push ls l)
-
-pub filled_none : (t : Tables) → rows_in t ≡ [] → Filled t t []
-filled_none t e = record { heading = refl; entry = refl; lines = ap (map (line_at (moves_in t))) e; front = take_all (length (moves_in t)) (moves_in t) (omega arith); count = omega arith }
 
 pub filled_more : (t u w : Tables) (ls : List Line) (line : Line) → line.alts ≡ [] → Filled t u ls → Lined u w line → Filled t w (ls ++ line ∷ [])
 filled_more t u w ls line no-alts f l =
@@ -67,9 +53,6 @@ module _ (R : ℕ) (place : ℕ → ℕ) (nodes : List Node) (t u : Tables) (i :
   pub nodes_step : (w : Tables) → i < length nodes → Lined u w (published_line R place (node_at nodes i)) → Filled t w (map (published_line R place) (take (i + 1) nodes))
   nodes_step w h l = subst (λ (ls : List Line). Filled t w ls) (sym (map_more (published_line R place) nodes i (Const 0 0 0) h)) (filled_more t u w _ _ refl f l)
 
-pub nodes_all : (R : ℕ) (place : ℕ → ℕ) (nodes : List Node) (t u : Tables) (i : ℕ) → length nodes ≤ i → Filled t u (map (published_line R place) (take i nodes)) → Filled t u (map (published_line R place) nodes)
-nodes_all R place nodes t u i h f = subst (λ (ns : List Node). Filled t u (map (published_line R place) ns)) (take_all i nodes h) f
-
 -- the whole: emptied tables, then the entry moves, then the lines of the nodes
 
 module _ (h : Heading) (es : List Move) (a b c : Tables) (heading : a.heading ≡ h) (rows : rows_in a ≡ []) (moves : moves_in a ≡ []) (added : Added a b es) (heading' : c.heading ≡ b.heading) (rows' : rows_in c ≡ rows_in b) (moves' : moves_in c ≡ moves_in b) (entry' : c.entry ≡ length (moves_in b)) where
@@ -78,9 +61,6 @@ module _ (h : Heading) (es : List Move) (a b c : Tables) (heading : a.heading �
 
   pub entry_is : moves_in c ≡ es
   entry_is = moves' ∙ (added.moves ∙ ap (λ ms. ms ++ es) moves)
-
-  pub rows_empty : rows_in c ≡ []
-  rows_empty = rows' ∙ (added.rows ∙ rows)
 
   pub whole_open : (y : Layout) (k : ℕ) → h.registers ≡ y.registers → h.slots ≡ length y.places.now → length es + k ≤ 1024 → Open c y k
   whole_open y k registers slots room = record { registers = ap (λ x. x.registers) heading_is ∙ registers; slots = ap (λ x. x.slots) heading_is ∙ slots; room = omega (arith, ap length entry_is) }
