@@ -26,7 +26,7 @@ mod tests {
     fn read(holder: &mut Holder, text: &[u8], parameters: u8, nodes: u16) -> Option<Numbers> {
         match holder.read(text, parameters, nodes) {
             Ok(_) => None,
-            Err(refusal) => Some(refusal.numbers()),
+            Err(refusal) => Some(Numbers::from(refusal)),
         }
     }
 
@@ -59,7 +59,7 @@ mod tests {
                 Ok(())
             }
             Err(refusal) => {
-                assert_eq!(rt; Some(refusal.numbers()), refused(61, 0));
+                assert_eq!(rt; Some(Numbers::from(refusal)), refused(61, 0));
                 assert!(rt; at > 5);
                 assert!(rt; &out[0..100] == &dots[0..100]);
                 Ok(())

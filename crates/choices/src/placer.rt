@@ -7,10 +7,9 @@ ghost use Rattle.colouring.specs.Consistency.{colouring_owed};
 ghost use Rattle.choices.specs.declared.placer.AnyPlacer.TheVariants.{Colouring, AllHome};
 
 use colouring::placer::Colouring;
+use loader::held::LoadedSource;
 use places::place::Place;
 use places::placer::{AllHome, Placer};
-use source::heading::Heading;
-use source::node::Node;
 use std::str::FromStr;
 
 #[derive(Clone, Copy, PartialEq, Eq, Debug)]
@@ -45,17 +44,10 @@ impl Placer for AnyPlacer {
       | AllHome ↦ λ s L R low high sound live arrive. homes_owed s R L
     ] };
 
-    fn place(
-        &self,
-        heading: Heading,
-        nodes: &[Node],
-        live: &[u64],
-        registers: u8,
-        out: &mut [Place],
-    ) {
+    fn place(&self, source: &LoadedSource, registers: u8, out: &mut [Place]) {
         match self {
-            AnyPlacer::Colouring => Colouring.place(heading, nodes, live, registers, out),
-            AnyPlacer::AllHome => AllHome.place(heading, nodes, live, registers, out),
+            AnyPlacer::Colouring => Colouring.place(source, registers, out),
+            AnyPlacer::AllHome => AllHome.place(source, registers, out),
         }
     }
 }

@@ -1,23 +1,17 @@
 -- The steps of colouring.
-use Rattle.std.proofs.Common.{◌≡◌, ℕ, zero, suc, ◌-◌, ◌%◌, ◌<◌, ◌≤◌, Bool, true, false, not, ◌&&◌, eqb, ltb, List, get_or, set, replicate, IfSome, Some, None, Option, sym, refl, ap, ◌∙◌, ap₂, arith, MatchOption}
+use Rattle.std.proofs.Common.{◌≡◌, ℕ, zero, suc, ◌-◌, ◌<◌, ◌≤◌, Bool, true, false, not, ◌&&◌, eqb, ltb, List, length, get_or, set, IfSome, Some, None, Option, sym, refl, ap, ◌∙◌, ap₂, subst, zero-add, arith, MatchOption}
+use Rattle.std.specs.List.{AllWithin, HoldsAt, range_with_len}
+use Rattle.std.proofs.lemmas.List.FromFn.{length-range_with_len, get_or-range_with_len}
 use mathlib.Core.Path.{fun_ext}
-use Rattle.std.proofs.lemmas.Bool.{and_left}
 use Rattle.sets.specs.Masks.{count, First}
 use Rattle.sets.proofs.Masks.{count_same, count_cut}
 use Rattle.places.specs.declared.place.Place.{Place}
 use Rattle.places.specs.declared.place.Place.TheVariants.{Home}
-use Rattle.colouring.specs.Colouring.{or_else, lowest_of, less, degree, under, next, held, holds, chosen, after, coloured, to_place}
+use Rattle.colouring.specs.Colouring.{or_else, lowest_of, busiest_of, less, degree, under, next, held, holds, chosen, after, coloured, to_place}
 use Rattle.colouring.specs.Chosen.{IsLowest}
-use Rattle.colouring.specs.Searches.{some_same, count_below, lowest_same, lowest_found, busiest_same, next_within}
+use Rattle.colouring.specs.Searches.{some_same, count_below, lowest_same, lowest_is, lowest_found, busiest_same, next_within}
 
 module _ (V K : ℕ) (conf : ℕ → ℕ → Bool) where
-  pub coloured_none : (left : ℕ → Bool) (turns : ℕ) → turns ≡ 0 → replicate V Home ≡ coloured V K conf turns left
-  coloured_none left turns e = ap (λ (n : ℕ). coloured V K conf n left) (sym e)
-
-  pub coloured_stop : (left : ℕ → Bool) (turns : ℕ) → None ≡ next V K conf left → replicate V Home ≡ coloured V K conf turns left
-  coloured_stop left zero e = refl
-  coloured_stop left (suc n) e = ap (λ (o : Option ℕ). after V K conf o (λ v. coloured V K conf n (less left v))) e
-
   pub coloured_step : (left rest : ℕ → Bool) (turns v : ℕ) (qs : List Place) → (turns ≡ 0 → ⊥) → Some v ≡ next V K conf left → ((u : ℕ) → rest u ≡ less left v u) → qs ≡ coloured V K conf (turns - 1) rest
       → set qs v (chosen V K conf qs v) ≡ coloured V K conf turns left
   coloured_step left rest zero v qs ne e f q = absurd (ne refl)
@@ -33,12 +27,34 @@ degree_is V near left both h e past = count_same 64 both (λ u. near u && left u
     outside true b e = e
     outside false b e = refl
 
--- without one of those left, by its mask
-pub less_is : (left rest one : ℕ → Bool) (v : ℕ) → v < 64 → ((u : ℕ) → rest u ≡ (left u && not (one u))) → ((u : ℕ) → one u ≡ eqb u (v % 64)) → (u : ℕ) → rest u ≡ less left v u
-less_is left rest one v h e f u = e u ∙ ap (λ (b : Bool). left u && not b) (f u ∙ ap (eqb u) {x = v % 64} {y = v} (omega arith))
+-- the best of the numbers below n that pass, with its degree
+abbrev pub BestSoFar : (ℕ → ℕ) → (ℕ → Bool) → ℕ → Option (ℕ × ℕ) → Type 0
+BestSoFar deg p n None = None ≡ busiest_of deg n p
+BestSoFar deg p n (Some x) = (Some x.0 ≡ busiest_of deg n p) × (x.1 ≡ deg x.0)
 
-pub less_past : (V v : ℕ) (left rest : ℕ → Bool) → ((u : ℕ) → rest u ≡ less left v u) → ((u : ℕ) → V ≤ u → left u ≡ false) → (u : ℕ) → V ≤ u → rest u ≡ false
-less_past V v left rest e past u h = e u ∙ and_left (left u) _ (past u h)
+-- the first that passes of the numbers from 0 on
+pub lowest_first : (n : ℕ) (p : ℕ → Bool) (o : Option ℕ)
+    → MatchOption o (AllWithin (λ v. p v ≡ false) (range_with_len 0 n) 0 (length (range_with_len 0 n))) (λ x. (p x ≡ true) × (i : ℕ) × (i < length (range_with_len 0 n)) × HoldsAt (λ y. y ≡ x) (range_with_len 0 n) i × AllWithin (λ v. p v ≡ false) (range_with_len 0 n) 0 i)
+    → o ≡ lowest_of n p
+lowest_first n p o h = lowest_found n p o (go o h)
+  where
+    at : (k : ℕ) → k < n → get_or (range_with_len 0 n) k 0 ≡ k
+    at k lt = get_or-range_with_len 0 n k 0 lt ∙ zero-add k
+
+    go : (o : Option ℕ) → MatchOption o (AllWithin (λ v. p v ≡ false) (range_with_len 0 n) 0 (length (range_with_len 0 n))) (λ x. (p x ≡ true) × (i : ℕ) × (i < length (range_with_len 0 n)) × HoldsAt (λ y. y ≡ x) (range_with_len 0 n) i × AllWithin (λ v. p v ≡ false) (range_with_len 0 n) 0 i) → IsLowest n p o
+    go None h = λ k lt. subst (λ (v : ℕ). p v ≡ false) (at k lt) (h k 0 (omega arith) (omega (arith, length-range_with_len 0 n)))
+    go (Some x) h =
+        let low : h.1 < n = omega (arith, h.2, length-range_with_len 0 n) in
+        let is : h.1 ≡ x = sym (at h.1 low) ∙ h.3 0 in
+        (omega (arith, low, is), record { here = h.0; none = λ k lt. subst (λ (v : ℕ). p v ≡ false) (at k (omega (arith, low, is, lt))) (h.4 k 0 (omega arith) (omega (arith, is, lt))) })
+
+-- the lowest that passes is below n
+pub lowest_below : (n : ℕ) (p : ℕ → Bool) (o : Option ℕ) → o ≡ lowest_of n p → IfSome o (λ v. v < n)
+lowest_below n p o e = go o (subst (IsLowest n p) (sym e) (lowest_is n p))
+  where
+    go : (o : Option ℕ) → IsLowest n p o → IfSome o (λ v. v < n)
+    go None h = tt
+    go (Some v) h = h.0
 
 -- the lowest register below K that is not held, by the set of those that are
 module _ (K : ℕ) (taken held' : ℕ → Bool) (is : (r : ℕ) → r < K → taken r ≡ held' r) where
@@ -48,10 +64,6 @@ module _ (K : ℕ) (taken held' : ℕ → Bool) (is : (r : ℕ) → r < K → ta
       go : (o : Option ℕ) → MatchOption o ((r : ℕ) → r < K → taken r ≡ true) (λ t. (t < K) × First (λ r. not (taken r)) t) → IsLowest K (λ r. not (taken r)) o
       go None h = λ r l. ap not (h r l)
       go (Some t) h = h
-
-  pub free_small : (o : Option ℕ) → K ≤ 14 → MatchOption o ((r : ℕ) → r < K → taken r ≡ true) (λ t. (t < K) × First (λ r. not (taken r)) t) → IfSome o (λ r. r < 256)
-  free_small None k h = tt
-  free_small (Some t) k h = omega (arith, h.0)
 
 -- ---- colouring asks only of temporaries below V
 

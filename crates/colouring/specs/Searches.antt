@@ -123,11 +123,3 @@ next_within V K conf left = go (lowest_of V (under V K conf left)) (busiest_of (
     go (Some v) b h g = (h.0, (and_parts _ _ h.1.here).0)
     go None (Some v) h g = (g.within, g.here)
     go None None h g = tt
-
--- with where it is found
-pub next_below : (V K : ℕ) (conf : ℕ → ℕ → Bool) (left : ℕ → Bool) (o : Option ℕ) → o ≡ next V K conf left → IfSome o (λ v. v < V)
-next_below V K conf left o e = go o (subst (λ (x : Option ℕ). IfSome x (λ v. (v < V) × (left v ≡ true))) (sym e) (next_within V K conf left))
-  where
-    go : (o : Option ℕ) → IfSome o (λ v. (v < V) × (left v ≡ true)) → IfSome o (λ v. v < V)
-    go None h = tt
-    go (Some v) h = h.0

@@ -1,7 +1,7 @@
 #![tactic(auto)]
 
 // The placer that colours the conflicts of temporaries.
-pub(crate) mod colour;
 pub(crate) mod conflicts;
+pub(crate) mod graph;
 pub mod placer;
 pub mod theorems;

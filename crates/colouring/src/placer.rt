@@ -2,13 +2,12 @@
 ghost use Rattle.colouring.specs.Colouring.{colouring};
 ghost use Rattle.colouring.specs.Consistency.{colouring_owed};
 
-use crate::colour::colour_left;
-use crate::conflicts::{common, find_conflicts, find_used};
+use crate::conflicts::{find_conflicts, find_used};
+use crate::graph::Graph;
+use loader::held::LoadedSource;
 use places::place::Place;
 use places::placer::Placer;
-use sets::mask::below;
-use source::heading::Heading;
-use source::node::Node;
+use sets::mask::{below, intersection};
 
 // Places by colouring.
 #[derive(Clone, Copy)]
@@ -19,18 +18,12 @@ impl Placer for Colouring {
 
     ghost lawful = { λ x s L R low high sound live arrive. colouring_owed s L R low };
 
-    fn place(
-        &self,
-        heading: Heading,
-        nodes: &[Node],
-        live: &[u64],
-        registers: u8,
-        out: &mut [Place],
-    ) {
-        let mut words = [0u64; 48];
-        let table = &mut words[0..out.len()];
-        find_conflicts(heading, nodes, live, table);
-        let used = common(find_used(heading, nodes, live), below(heading.temporaries));
-        colour_left(table, used, out.len(), registers - 2, out);
+    fn place(&self, source: &LoadedSource, registers: u8, out: &mut [Place]) {
+        let conflicts = find_conflicts(source);
+        let graph = Graph {
+            rows: conflicts.as_slice(),
+            left: intersection(find_used(source), below(source.heading.temporaries)),
+        };
+        graph.colour(out.len(), registers - 2, out);
     }
 }

@@ -24,7 +24,7 @@ mod tests {
     fn load(loader: &mut Loader, text: &[u8]) -> Option<Numbers> {
         match loader.load(text) {
             Ok(_) => None,
-            Err(refusal) => Some(refusal.numbers()),
+            Err(refusal) => Some(Numbers::from(refusal)),
         }
     }
 

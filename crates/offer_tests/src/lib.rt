@@ -24,7 +24,7 @@ mod tests {
     ) -> (u16, Numbers) {
         match offer(loader, reader, text, memory) {
             Ok(moves) => (moves, refused(0, 0, 0, 0)),
-            Err(refusal) => (0, refusal.numbers()),
+            Err(refusal) => (0, Numbers::from(refusal)),
         }
     }
 

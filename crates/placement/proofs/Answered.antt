@@ -1,17 +1,15 @@
 -- What the check says of published lines is what the placement answers.
-use Rattle.std.proofs.Common.{◌≡◌, ℕ, ◌*◌, ◌<◌, ◌≤◌, Bool, true, List, length, IfOk, Some, Ok, Err, Option, Result, sym, ◌∙◌, subst, inl, inr, arith, MatchResult}
+use Rattle.std.proofs.Common.{◌≡◌, ℕ, ◌*◌, ◌<◌, ◌≤◌, Bool, List, length, IfOk, Some, Ok, Err, Option, Result, sym, ap, ◌∙◌, subst, inl, inr, arith, MatchResult}
 use Rattle.std.specs.Option.{option_map}
 use Rattle.std.proofs.lemmas.Bool.{cases_lt}
 use Rattle.refusal.specs.declared.Refusal.{Refusal}
 use Rattle.refusal.specs.declared.Refusal.TheVariants.{ShortMemory}
-use Rattle.source.specs.declared.heading.Heading.{Heading}
-use Rattle.source.specs.declared.node.Node.{Node}
 use Rattle.source.specs.declared.table.Table.{Table}
 use Rattle.source.specs.Reading.{Source}
-use Rattle.source.specs.Tables.{nodes_in, source_in}
-use Rattle.source.specs.Nodes.{AllSound}
-use Rattle.loader.specs.Live.{live_sets, Liveness}
-use Rattle.loader.specs.Load.{live_words}
+use Rattle.source.specs.Tables.{source_in}
+use Rattle.loader.specs.Live.{live_sets}
+use Rattle.loader.specs.Load.{loaded_source, live_words, Shows}
+use Rattle.loader.specs.declared.held.LoadedSource.{LoadedSource}
 use Rattle.loader.specs.declared.holder.Loader.{Loader}
 use Rattle.allocation.specs.Allocations.{Allocation}
 use Rattle.allocation.specs.Lines.{move_count}
@@ -20,7 +18,7 @@ use Rattle.equations.specs.Equations.{memory_sets}
 use Rattle.equations.specs.Verdict.{Accepted, Refused, Ready, Left, Fits}
 use Rattle.verdict.proofs.Unique.{one_verdict_lem}
 use Rattle.places.specs.declared.place.Place.{Place}
-use Rattle.places.specs.Places.{Lawful, source_of, locations, IsPlace}
+use Rattle.places.specs.Places.{Lawful, locations, IsPlace}
 use Rattle.places.specs.Publish.{published_allocation}
 use Rattle.places.specs.Laws.{Loadable}
 use Rattle.places.proofs.Accept.{consistent_places_pass_lem}
@@ -81,46 +79,28 @@ module _ (places : Source → (ℕ → ℕ → Bool) → ℕ → List Place) (la
       let w = subst (λ (x : Allocation). Verdict s x words words' (Err e)) is v in
       refused e w.memory w.verdict
 
--- what the loader lends: the nodes and the masks of the source that it holds
-module _ (l : Loader) (h : Heading) (nodes : List Node) (live : List ℕ) (is : Some h ≡ l.loaded) (same_nodes : nodes ≡ nodes_in l.tables.nodes) (same_live : live ≡ live_words l) where
-  abbrev held : Source
-  held = source_in h l.tables.nodes
+-- what the loader shows can be placed
+pub loadable : (l : Loader) (o : LoadedSource) → Shows l o → Loadable (source_in o.heading o.table.now) (live_sets o.live.now)
+loadable l o is = record { sound = o.sound; some = o.some; few = o.few; within = o.within; live = is.live; entry = is.entry }
 
-  pub loadable : AllSound h.temporaries nodes → Liveness (nodes_in l.tables.nodes) (live_sets live) → ((v : ℕ) → live_sets live 0 v ≡ true → v < h.parameters) → Loadable held (live_sets (live_words l))
-  loadable sound least entry = record {
-    sound = subst (λ (ns : List Node). AllSound h.temporaries ns) same_nodes sound;
-    some = omega (arith, l.some h (sym is), l.long h (sym is));
-    few = l.few h (sym is);
-    within = l.within h (sym is);
-    live = subst (λ (ws : List ℕ). Liveness (nodes_in l.tables.nodes) (live_sets ws)) same_live least;
-    entry = subst (λ (ws : List ℕ). (v : ℕ) → live_sets ws 0 v ≡ true → v < h.parameters) same_live entry;
-  }
+-- the places ps of what it shows, and the allocation b published for them
+module _ (places : Source → (ℕ → ℕ → Bool) → ℕ → List Place) (lawful : Lawful places) (l : Loader) (o : LoadedSource) (is : Shows l o) (R : ℕ) (enough : Enough R) (ps : List Place) (placed : ps ≡ places (source_in o.heading o.table.now) (live_sets o.live.now) R) where
+  abbrev s : Source
+  s = source_in o.heading o.table.now
 
-  module _ (places : Source → (ℕ → ℕ → Bool) → ℕ → List Place) (R R' : ℕ) (ps : List Place) (same-registers : R' ≡ R) (placed : ps ≡ places (source_of h nodes) (live_sets live) R') where
-    -- the places, of the source that it holds
-    places_are : ps ≡ places held (live_sets (live_words l)) R
-    places_are = placed ∙ (λ i. places (source_of h (same_nodes i)) (live_sets (same_live i)) (same-registers i))
+  abbrev L : ℕ → ℕ → Bool
+  L = live_sets o.live.now
 
-    -- each is a register or home
-    pub placed_all : Lawful places → Enough R → Loadable held (live_sets (live_words l)) → (v : ℕ) → IsPlace R' v (locations R' ps v)
-    placed_all lawful enough ok =
-        subst (λ (x : ℕ). (v : ℕ) → IsPlace x v (locations x ps v)) (sym same-registers)
-        (subst (λ (qs : List Place). (v : ℕ) → IsPlace R v (locations R qs v)) (sym places_are)
-        (lawful held (live_sets (live_words l)) R enough.low enough.high ok.sound ok.live ok.entry).consistent.placed)
+  -- each is a register or home
+  pub placed_all : (v : ℕ) → IsPlace R v (locations R ps v)
+  placed_all =
+      let ok = loadable l o is in
+      subst (λ (qs : List Place). (v : ℕ) → IsPlace R v (locations R qs v)) (sym placed) (lawful s L R enough.low enough.high ok.sound ok.live ok.entry).consistent.placed
 
-    -- what is published
-    pub published_is : (a : Allocation) → a ≡ published_allocation (source_of h nodes) (live_sets live) R' ps → a ≡ published places held (live_words l) R
-    published_is a made = made ∙ (λ i. published_allocation (source_of h (same_nodes i)) (live_sets (same_live i)) (same-registers i) (places_are i))
-
--- of the table that is checked
-pub fits_table : (h : Heading) (table table' : Table) (L : ℕ → ℕ → Bool) (R : ℕ) (ps : List Place) (a : Allocation) → table' ≡ table → a ≡ published_allocation (source_in h table) L R ps → Loadable (source_in h table) L → Fits (source_in h table') a
-fits_table h table table' L R ps a same made ok =
-    subst (λ (x : Table). Fits (source_in h x) a) (sym same) (subst (λ (b : Allocation). Fits (source_in h table) b) (sym made) (fits (source_in h table) L R ps ok))
-
-pub of_table : (h : Heading) (table table' : Table) (a : Allocation) (words words' : List ℕ) (r : Result ℕ Refusal) → table' ≡ table → Verdict (source_in h table') a words words' r → Verdict (source_in h table) a words words' r
-of_table h table table' a words words' r same v = subst (λ (x : Table). Verdict (source_in h x) a words words' r) same v
-
--- the source that is loaded
-pub for_loaded : (places : Source → (ℕ → ℕ → Bool) → ℕ → List Place) (loaded : Option Heading) (h : Heading) (table : Table) (live : List ℕ) (R : ℕ) (words words' : List ℕ) (a : Allocation) (r : Result ℕ Refusal) → Some h ≡ loaded
-    → Placed places (Some (source_in h table)) live R words a words' r → Placed places (option_map (λ x. source_in x table) loaded) live R words a words' r
-for_loaded places loaded h table live R words words' a r is p = subst (λ (o : Option Heading). Placed places (option_map (λ x. source_in x table) o) live R words a words' r) is p
+  -- the answer, for the source that is loaded
+  pub answered_loaded : (b : Allocation) → b ≡ published_allocation s L R ps → (words words' : List ℕ) (r : Result ℕ Refusal) → Verdict s b words words' r → Placed places (loaded_source l) (live_words l) R words b words' r
+  answered_loaded b made words words' r v =
+      let same : option_map (λ h. source_in h l.tables.nodes) l.loaded ≡ Some s = ap (option_map (λ h. source_in h l.tables.nodes)) is.heading ∙ ap (λ (t : Table). Some (source_in o.heading t)) (sym is.table) in
+      subst (λ (x : Option Source). Placed places x (live_words l) R words b words' r) (sym same)
+      (subst (λ (ws : List ℕ). Placed places (Some s) ws R words b words' r) is.words
+      (answered places lawful s o.live.now R (loadable l o is) enough o.words is.few_parameters words words' b r (made ∙ ap (published_allocation s L R) placed) v))

@@ -18,11 +18,9 @@ use verdict::check::check_counted;
 fn find_enough(registers: u64) -> Option<u8>
     ensures { MatchOption result (Enough registers → ⊥) (λ n. Enough registers × (n ≡ registers)) }
 {
-    if registers >= 3 && registers <= 16 {
-        Some(registers as u8)
-    } else {
-        None
-    }
+    u8::try_from(registers)
+        .ok()
+        .filter(|n| (3..=16).contains(n))
 }
 
 // Places the temporaries of the loaded source by the placer, publishes their lines in the tables of `spare`, where they
@@ -36,19 +34,14 @@ pub fn place<P: Placer>(
 ) -> Result<u32, Refusal>
     ensures { Placed (P.Placer.places placer.now) (loaded_source loader.now) (live_words loader.now) registers memory.old (allocation_of spare.new) memory.new result }
 {
-    let Some(heading) = loader.heading() else {
-        return Err(Refusal::Unplaced);
-    };
-    let Some(registers) = find_enough(registers) else {
-        return Err(Refusal::Registers);
-    };
-    let nodes = loader.nodes();
-    let live = loader.live();
+    let source = loader.source().ok_or(Refusal::Unplaced)?;
+    let registers = find_enough(registers).ok_or(Refusal::Registers)?;
+    // an array and a slice of it: filling an `ArrayVec` first would be no plainer
     let mut row = [Place::Home; 48];
-    let places = &mut row[0..heading.temporaries as usize];
-    placer.place(heading, nodes, live, registers, places);
-    publish(heading, nodes, live, registers, places, spare);
-    check_counted(memory, heading, loader.table(), spare)
+    let places = &mut row[..source.heading.temporaries as usize];
+    placer.place(&source, registers, places);
+    publish(&source, registers, places, spare);
+    check_counted(memory, source.heading, source.table, spare)
 }
 
 // A placement is accepted exactly when all of its questions are yes: the theorem that this function's contract names.

@@ -39,20 +39,14 @@ mod tests {
         placer: &P,
         registers: u64,
         memory: &mut [u64],
-        moves: u32,
-        question: u8,
+        expected: Result<u32, u8>,
     ) -> Result<(), Fail> {
-        match place(loader, tables, placer, registers, memory) {
-            Ok(count) => {
-                assert_eq!(rt; question, 0);
-                assert_eq!(rt; count, moves);
-                Ok(())
-            }
-            Err(refusal) => {
-                assert_eq!(rt; refusal.numbers(), refused(question));
-                Ok(())
-            },
-        }
+        let answer = place(loader, tables, placer, registers, memory);
+        assert_eq!(rt;
+            answer.map_err(Numbers::from),
+            expected.map_err(refused)
+        );
+        Ok(())
     }
 
     // Whether the tables are written as this text, and the same is written once it is read again.
@@ -64,10 +58,11 @@ mod tests {
         out: &mut [u8],
         text: &[u8],
     ) -> Result<(), Fail> {
-        let Some(heading) = loader.heading() else {
+        let Some(source) = loader.source() else {
             assert!(rt; false);
             return Ok(());
         };
+        let heading = source.heading;
         assert_eq!(rt; write(tables, out, 0).ok(), Some(text.len()));
         assert!(rt; out.get(..text.len()) == Some(text));
         assert!(rt; reader.read(text, heading.parameters, heading.nodes).is_ok());
@@ -172,8 +167,7 @@ mod tests {
                 &Colouring,
                 registers,
                 memory.as_mut_slice(),
-                moves,
-                0,
+                Ok(moves),
             )?;
             check_text(&rt, &tables, &mut reader, &loader, out.as_mut_slice(), text)?;
         }
@@ -186,8 +180,7 @@ mod tests {
             &AllHome,
             4,
             memory.as_mut_slice(),
-            11,
-            0,
+            Ok(11),
         )?;
         check_text(
             &rt,
@@ -201,13 +194,13 @@ mod tests {
 
     // The places that the placer writes, or false where they cannot be asked for.
     fn colour(loader: &Loader, registers: u8, out: &mut [Place]) -> bool {
-        let Some(heading) = loader.heading() else {
+        let Some(source) = loader.source() else {
             return false;
         };
-        if out.len() != heading.temporaries as usize || registers < 3 || registers > 16 {
+        if out.len() != source.heading.temporaries as usize || !(3..=16).contains(&registers) {
             return false;
         }
-        Colouring.place(heading, loader.nodes(), loader.live(), registers, out);
+        Colouring.place(&source, registers, out);
         true
     }
 
@@ -246,16 +239,14 @@ mod tests {
                 &Colouring,
                 registers,
                 memory.as_mut_slice(),
-                moves,
-                0,
+                Ok(moves),
             )?;
         }
         assert!(rt; colour(&loader, 16, out.as_mut_slice()));
-        for v in 0usize..34 {
-            assert!(rt; out.get(v).copied() == Some(Place::Home));
-        }
-        for v in 34usize..48 {
-            assert!(rt; out.get(v).copied() == Some(Place::Register((47 - v) as u8)));
+        let (homes, held) = out.as_slice().split_at(34);
+        assert!(rt; homes.iter().all(|place| *place == Place::Home));
+        for (place, register) in held.iter().zip((0u8..14).rev()) {
+            assert!(rt; *place == Place::Register(register));
         }
         Ok(())
     }
@@ -283,36 +274,26 @@ mod tests {
         let mut loader = Loader::new(heap)?;
         let mut tables = Tables::new(heap)?;
         let mut memory = vec![in heap; u64::MAX; 16_384]?;
-        for (heading, nodes, words, moves, question, first) in [
+        for (heading, nodes, words, expected, first) in [
             (
                 b"source\t1\t1\t1\n" as &[u8],
                 1u32,
                 63usize,
-                0u32,
-                31u8,
+                Err(31u8),
                 u64::MAX,
             ),
-            (b"source\t1\t1\t129\n", 129, 8_192, 0, 31, u64::MAX),
-            (b"source\t1\t1\t256\n", 256, 16_383, 0, 31, u64::MAX),
-            (b"source\t1\t1\t1\n", 1, 64, 1, 0, 1),
-            (b"source\t1\t1\t128\n", 128, 8_192, 1, 0, 1),
-            (b"source\t1\t1\t256\n", 256, 16_384, 1, 0, 1),
+            (b"source\t1\t1\t129\n", 129, 8_192, Err(31), u64::MAX),
+            (b"source\t1\t1\t256\n", 256, 16_383, Err(31), u64::MAX),
+            (b"source\t1\t1\t1\n", 1, 64, Ok(1u32), 1),
+            (b"source\t1\t1\t128\n", 128, 8_192, Ok(1), 1),
+            (b"source\t1\t1\t256\n", 256, 16_384, Ok(1), 1),
         ] {
             load_returns(&rt, &mut loader, heading, nodes)?;
             let Some(lent) = memory.as_mut_slice().get_mut(..words) else {
                 assert!(rt; false);
                 return Ok(());
             };
-            check_place(
-                &rt,
-                &loader,
-                &mut tables,
-                &Colouring,
-                3,
-                lent,
-                moves,
-                question,
-            )?;
+            check_place(&rt, &loader, &mut tables, &Colouring, 3, lent, expected)?;
             assert_eq!(rt; memory.get(0).copied(), Some(first));
         }
         Ok(())
@@ -332,18 +313,11 @@ mod tests {
                 &Colouring,
                 registers,
                 memory.as_mut_slice(),
-                0,
-                40,
+                Err(40),
             )?;
         }
         assert!(rt; loader.load(WORKED).is_ok());
-        for (registers, moves, question) in [
-            (0u64, 0u32, 41u8),
-            (2, 0, 41),
-            (17, 0, 41),
-            (260, 0, 41),
-            (u64::MAX, 0, 41),
-        ] {
+        for registers in [0u64, 2, 17, 260, u64::MAX] {
             check_place(
                 &rt,
                 &loader,
@@ -351,8 +325,7 @@ mod tests {
                 &Colouring,
                 registers,
                 memory.as_mut_slice(),
-                moves,
-                question,
+                Err(41),
             )?;
         }
         for word in memory.as_slice() {

@@ -303,6 +303,15 @@ module _ (R : ℕ) (place : ℕ → ℕ) (big : 3 ≤ R) (placed : (v : ℕ) →
     enters : Clear (back_moves (entry_moves R place live 0 P) S) (foreign R P)
     enters = clear_from _ _ (λ e x y. let p = entered 0 P (omega arith) e x in let v = e.1 in elim p.1 [ inl q ↦ omega arith | inr q ↦ both_ways _ (not-true _ y) (and_from _ _ (lt-ltb v P (arrive v p.0)) (eq-eqb _ _ q.1)) ])
 
+-- a published main line is one of its node
+pub main_matches : (R : ℕ) (place : ℕ → ℕ) (node : Node) → Matches node (published_line R place node).main
+main_matches R place (Const d k next) = refl
+main_matches R place (Mov d a next) = refl
+main_matches R place (Binary o d a b next) = refl
+main_matches R place (Call d h a b next) = refl
+main_matches R place (Branch c a b taken other) = refl
+main_matches R place (Return a) = refl
+
 module _ (s : Source) (L : ℕ → ℕ → Bool) (R : ℕ) (ps : List Place) (ok : Loadable s L) (big : 3 ≤ R) (good-places : Consistent s R L (locations R ps)) where
   abbrev N : ℕ
   N = length s.nodes
@@ -342,17 +351,9 @@ module _ (s : Source) (L : ℕ → ℕ → Bool) (R : ℕ) (ps : List Place) (ok
   at_places_closed : Closed N (equation_step s a) at_places
   at_places_closed n h e x = let p = node_before at_places (λ m _. at_place m) n h e x in and_from _ _ p.0 (eq-eqb _ _ p.1)
 
-  matches : (node : Node) → Matches node (published_line R place node).main
-  matches (Const d k next) = refl
-  matches (Mov d a next) = refl
-  matches (Binary o d a b next) = refl
-  matches (Call d h a b next) = refl
-  matches (Branch c a b taken other) = refl
-  matches (Return a) = refl
-
   accepted : Passes s a
   accepted size room X least =
-      record { ready = record { room = room; matches = λ n h. subst (λ (l : Line). Matches (node n) l.main) (sym (line_is n h)) (matches (node n)) }; least = least; nodes = node_passes X inside; entry = enters R place big good-places.placed s.parameters (L 0) ok.entry good-places.entry (X 0) (inside 0 ok.some) }
+      record { ready = record { room = room; matches = λ n h. subst (λ (l : Line). Matches (node n) l.main) (sym (line_is n h)) (main_matches R place (node n)) }; least = least; nodes = node_passes X inside; entry = enters R place big good-places.placed s.parameters (L 0) ok.entry good-places.entry (X 0) (inside 0 ok.some) }
     where
       inside : (n : ℕ) → n < N → Holds (X n) (At R place big good-places.placed (L n))
       inside n h e x = at_place n e (least.least at_places at_places_closed n h e x)

@@ -1,14 +1,15 @@
 -- The loops that fill tables.
-use Rattle.std.proofs.Common.{◌≡◌, ℕ, zero, suc, ◌+◌, ◌*◌, ◌<◌, ◌≤◌, Bool, true, false, cond, ◌&&◌, ltb, List, [], ◌∷◌, ◌++◌, map, length, take, sym, refl, ap, ◌∙◌, subst, append-nil, add-one, arith}
-use Rattle.std.proofs.lemmas.List.{length-append, length-map, length-take-le, take-append-le, take_all, map_more}
-use Rattle.source.specs.Nodes.{Sound, node_at}
+use Rattle.std.proofs.Common.{◌≡◌, ℕ, zero, suc, ◌+◌, ◌*◌, ◌<◌, ◌≤◌, Bool, true, false, cond, ◌&&◌, ltb, List, [], ◌∷◌, ◌++◌, map, length, take, sym, refl, ap, ◌∙◌, subst, add-one, arith}
+use Rattle.std.proofs.lemmas.List.{length-append, length-map, length-take-le, take-append-le, map_more}
+use Rattle.source.specs.Nodes.{node_at}
 use Rattle.source.specs.declared.node.Node.{Node}
-use Rattle.source.specs.declared.node.Node.TheVariants.{Const, Mov, Binary, Call, Branch, Return}
+use Rattle.source.specs.declared.node.Node.TheVariants.{Const}
 use Rattle.allocation.specs.Allocations.{Line, rows_in, moves_in, allocation_of, line_at}
 use Rattle.allocation.specs.Lines.{line_moves, lines_moves}
 use Rattle.allocation.specs.declared.heading.Heading.{Heading}
 use Rattle.allocation.specs.declared.line.Move.{Move}
 use Rattle.allocation.specs.declared.tables.Tables.{Tables}
+use Rattle.places.specs.declared.layout.Layout.{Layout}
 use Rattle.places.specs.Publish.{◌⇐◌, published_line, entry_moves}
 use Rattle.places.specs.Steps.{Added, Lined, Filled, Open}
 use Rattle.places.proofs.Adding.{added_two, still_open}
@@ -25,49 +26,32 @@ module _ (R : ℕ) (place : ℕ → ℕ) (live : ℕ → Bool) where
       go true xs ys zs q = ap (λ z. (place i ⇐ (R + i)) ∷ z) q
       go false xs ys zs q = q
 
-  pub entry_none : (t : Tables) → Added t t (entry_moves R place live 0 0)
-  entry_none t = record { heading = refl; rows = refl; entry = refl; moves = sym (append-nil (moves_in t)) }
-
-  pub entry_open : (t u : Tables) (S P i : ℕ) → Open t R S P → Added t u (entry_moves R place live 0 i) → i < P → Open u R S 1
-  entry_open t u S P i o a h = still_open t u R S P 1 (entry_moves R place live 0 i) o a (omega (arith, entry_few R place live 0 i))
+  pub entry_open : (t u : Tables) (y : Layout) (P i : ℕ) → Open t y P → Added t u (entry_moves R place live 0 i) → i < P → Open u y 1
+  entry_open t u y P i o a h = still_open t u y P 1 (entry_moves R place live 0 i) o a (omega (arith, entry_few R place live 0 i))
 
   pub entry_step : (t u w : Tables) (i : ℕ) → Added t u (entry_moves R place live 0 i) → Added u w (entry_moves R place live i 1) → Added t w (entry_moves R place live 0 (i + 1))
   entry_step t u w i a b = subst (λ (ms : List Move). Added t w ms) (sym (ap (entry_moves R place live 0) (add-one i) ∙ entry_more 0 i i (omega arith))) (added_two t u w _ _ a b)
 
 -- the lines of one more node
 
-pub sound_more : (v n m : ℕ) (node : Node) → n ≤ m → Sound v n node → Sound v m node
-sound_more v n m (Const d k next) h s = (s.0, s.1, omega (arith, s.2))
-sound_more v n m (Mov d a next) h s = (s.0, s.1, omega (arith, s.2))
-sound_more v n m (Binary o d a b next) h s = (s.0, s.1, s.2, omega (arith, s.3))
-sound_more v n m (Call d f a b next) h s = (s.0, s.1, s.2, s.3, omega (arith, s.4))
-sound_more v n m (Branch c a b taken other) h s = (s.0, s.1, omega (arith, s.2), omega (arith, s.3))
-sound_more v n m (Return a) h s = s
-
 lines_moves-push : (ls : List Line) (l : Line) → lines_moves (ls ++ l ∷ []) ≡ lines_moves ls + line_moves l
 lines_moves-push [] l = omega arith
 lines_moves-push (x ∷ ls) l = omega (arith, lines_moves-push ls l)
-
-pub filled_none : (t : Tables) → rows_in t ≡ [] → Filled t t []
-filled_none t e = record { heading = refl; entry = refl; lines = ap (map (line_at (moves_in t))) e; front = take_all (length (moves_in t)) (moves_in t) (omega arith); count = omega arith }
 
 pub filled_more : (t u w : Tables) (ls : List Line) (line : Line) → line.alts ≡ [] → Filled t u ls → Lined u w line → Filled t w (ls ++ line ∷ [])
 filled_more t u w ls line no-alts f l =
     record { heading = l.heading ∙ f.heading; entry = l.entry ∙ f.entry; lines = l.lines ∙ ap (λ z. z ++ line ∷ []) f.lines; front = ap (take (length (moves_in t))) l.moves ∙ (take-append-le (length (moves_in t)) (moves_in u) (line.ins ++ line.outs) (omega (arith, f.count)) ∙ f.front); count = omega (arith, f.count, ap length l.moves, length-append (moves_in u) (line.ins ++ line.outs), length-append line.ins line.outs, lines_moves-push ls line, ap length no-alts) }
 
-module _ (R S : ℕ) (place : ℕ → ℕ) (nodes : List Node) (t u : Tables) (i : ℕ) (f : Filled t u (map (published_line R place) (take i nodes))) where
-  pub nodes_open : Open t R S (3 * length nodes + 1) → i < length nodes → Open u R S 4
-  nodes_open o h =
-      record { registers = ap (λ x. x.registers) f.heading ∙ o.registers; slots = ap (λ x. x.slots) f.heading ∙ o.slots; low = o.low; high = o.high; few = o.few; room = omega (arith, f.count, lines_few R place (take i nodes), length-take-le i nodes (omega arith), o.room) }
+module _ (R : ℕ) (place : ℕ → ℕ) (nodes : List Node) (t u : Tables) (i : ℕ) (f : Filled t u (map (published_line R place) (take i nodes))) where
+  pub nodes_open : (y : Layout) → Open t y (3 * length nodes + 1) → i < length nodes → Open u y 4
+  nodes_open y o h =
+      record { registers = ap (λ x. x.registers) f.heading ∙ o.registers; slots = ap (λ x. x.slots) f.heading ∙ o.slots; room = omega (arith, f.count, lines_few R place (take i nodes), length-take-le i nodes (omega arith), o.room) }
 
   pub nodes_room : i < length nodes → length nodes ≤ 256 → length (rows_in u) < 256
   nodes_room h k = omega (arith, length-map (rows_in u) (line_at (moves_in u)), ap length f.lines, length-map (take i nodes) (published_line R place), length-take-le i nodes (omega arith))
 
   pub nodes_step : (w : Tables) → i < length nodes → Lined u w (published_line R place (node_at nodes i)) → Filled t w (map (published_line R place) (take (i + 1) nodes))
   nodes_step w h l = subst (λ (ls : List Line). Filled t w ls) (sym (map_more (published_line R place) nodes i (Const 0 0 0) h)) (filled_more t u w _ _ refl f l)
-
-pub nodes_all : (R : ℕ) (place : ℕ → ℕ) (nodes : List Node) (t u : Tables) (i : ℕ) → length nodes ≤ i → Filled t u (map (published_line R place) (take i nodes)) → Filled t u (map (published_line R place) nodes)
-nodes_all R place nodes t u i h f = subst (λ (ns : List Node). Filled t u (map (published_line R place) ns)) (take_all i nodes h) f
 
 -- the whole: emptied tables, then the entry moves, then the lines of the nodes
 
@@ -78,11 +62,8 @@ module _ (h : Heading) (es : List Move) (a b c : Tables) (heading : a.heading �
   pub entry_is : moves_in c ≡ es
   entry_is = moves' ∙ (added.moves ∙ ap (λ ms. ms ++ es) moves)
 
-  pub rows_empty : rows_in c ≡ []
-  rows_empty = rows' ∙ (added.rows ∙ rows)
-
-  pub whole_open : (k : ℕ) → 3 ≤ h.registers → h.registers ≤ 16 → h.slots ≤ 48 → length es + k ≤ 1024 → Open c h.registers h.slots k
-  whole_open k low high few room = record { registers = ap (λ x. x.registers) heading_is; slots = ap (λ x. x.slots) heading_is; low = low; high = high; few = few; room = omega (arith, ap length entry_is) }
+  pub whole_open : (y : Layout) (k : ℕ) → h.registers ≡ y.registers → h.slots ≡ length y.places.now → length es + k ≤ 1024 → Open c y k
+  whole_open y k registers slots room = record { registers = ap (λ x. x.registers) heading_is ∙ registers; slots = ap (λ x. x.slots) heading_is ∙ slots; room = omega (arith, ap length entry_is) }
 
   module _ (d : Tables) (ls : List Line) (f : Filled c d ls) where
     entry_taken : take d.entry (moves_in d) ≡ es

@@ -2,18 +2,13 @@
 use Rattle.std.proofs.Common.{◌≡◌, ℕ, suc, ◌-◌, ◌≤◌, true, List, [], ◌∷◌, ◌++◌, map, length, take, drop, sym, refl, ap, ◌∙◌, ap₂, append_assoc, append-nil, arith}
 use Rattle.std.specs.List.{between}
 use Rattle.std.proofs.lemmas.List.{length-append, length-drop, take_at, drop_at, take-append-le, drop-append-le, map-append}
-use Rattle.std.proofs.lemmas.Bool.{and_from, le-leb}
 use Rattle.allocation.specs.Allocations.{Line, line_at, rows_in, moves_in}
-use Rattle.allocation.specs.Ranges.{main_line_fits, row_fits, RowsFit}
+use Rattle.allocation.specs.Ranges.{row_fits, RowsFit}
 use Rattle.allocation.specs.declared.line.Move.{Move}
-use Rattle.allocation.specs.declared.line.Main.{Main}
 use Rattle.allocation.specs.declared.line.Row.{Row}
 use Rattle.allocation.specs.declared.tables.Tables.{Tables}
 use Rattle.allocation.proofs.LineCounts.{ordered}
 use Rattle.places.specs.Steps.{Added, Lined}
-
-pub row_fits_from : (r len : ℕ) (m : Main) (i o e : ℕ) → main_line_fits r m ≡ true → i ≤ o → o ≤ e → e ≤ len → row_fits r len (record { main = m; ins = i; outs = o; alts = e; end = e }) ≡ true
-row_fits_from r len m i o e f p q l = and_from _ _ f (and_from _ _ (le-leb i o p) (and_from _ _ (le-leb o e q) (and_from _ _ (le-leb e e (omega arith)) (le-leb e len l))))
 
 -- the moves between two moments
 between_added : (a x y : List Move) (i e : ℕ) → i ≡ length a → e ≡ length (a ++ x) → between i e ((a ++ x) ++ y) ≡ x

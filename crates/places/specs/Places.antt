@@ -3,7 +3,6 @@ use Rattle.std.specs.Prelude.{◌≡◌, ℕ, ◌+◌, ◌-◌, ◌<◌, ◌≤�
 use Rattle.sets.specs.Masks.{names}
 use Rattle.source.specs.Nodes.{result_of, node_at, AllSound}
 use Rattle.source.specs.Reading.{Source}
-use Rattle.source.specs.declared.heading.Heading.{Heading}
 use Rattle.source.specs.declared.node.Node.{Node}
 use Rattle.source.specs.declared.node.Node.TheVariants.{Const, Mov, Binary, Call, Branch, Return}
 use Rattle.loader.specs.Live.{out_of, is_result, Liveness}
@@ -18,10 +17,6 @@ location R v (Register x) = x
 -- the locations of all temporaries, by the list of their places
 abbrev pub locations : ℕ → List Place → ℕ → ℕ
 locations R ps v = location R v (slice_index_or ps v Home)
-
--- the source of a heading and a list of nodes
-abbrev pub source_of : Heading → List Node → Source
-source_of h ns = record { parameters = h.parameters; temporaries = h.temporaries; nodes = ns }
 
 -- the origin of a `mov`
 abbrev pub copied : Node → Option ℕ

@@ -1,11 +1,15 @@
 -- What the steps of publishing do to tables.
-use Rattle.std.specs.Prelude.{◌≡◌, ℕ, ◌+◌, ◌<◌, ◌≤◌, List, [], ◌∷◌, ◌++◌, map, length, take}
+use Rattle.std.specs.Prelude.{◌≡◌, ℕ, ◌+◌, ◌≤◌, List, [], ◌∷◌, ◌++◌, map, length, take}
 use Rattle.allocation.specs.Allocations.{Line, line_at, rows_in, moves_in}
 use Rattle.allocation.specs.Lines.{lines_moves}
 use Rattle.allocation.specs.declared.line.Move.{Move}
 use Rattle.allocation.specs.declared.tables.Tables.{Tables}
 use Rattle.places.specs.Places.{locations}
-use Rattle.places.specs.declared.place.Place.{Place}
+use Rattle.places.specs.declared.layout.Layout.{Layout}
+
+-- where a layout has each temporary
+abbrev pub place_of : Layout → ℕ → ℕ
+place_of y = locations y.registers y.places.now
 
 -- the lines of the rows of tables
 abbrev pub lines_in : Tables → List Line
@@ -33,16 +37,8 @@ pub record Filled (t u : Tables) (ls : List Line) : Type 0 where
   pub front : take (length (moves_in t)) (moves_in u) ≡ moves_in t
   pub count : length (moves_in u) ≡ length (moves_in t) + lines_moves ls
 
--- tables with R registers and S slots, and room for k more moves
-pub record Open (t : Tables) (R S k : ℕ) : Type 0 where
-  pub registers : t.heading.registers ≡ R
-  pub slots : t.heading.slots ≡ S
-  pub low : 3 ≤ R
-  pub high : R ≤ 16
-  pub few : S ≤ 48
+-- tables with the registers and slots of a layout, and room for k more moves
+pub record Open (t : Tables) (y : Layout) (k : ℕ) : Type 0 where
+  pub registers : t.heading.registers ≡ y.registers
+  pub slots : t.heading.slots ≡ length y.places.now
   pub room : length (moves_in t) + k ≤ 1024
-
--- a place for each of S temporaries, which is a register or its slot
-pub record Placed (R S : ℕ) (ps : List Place) : Type 0 where
-  pub long : length ps ≡ S
-  pub inside : (v : ℕ) → v < S → locations R ps v < R + S

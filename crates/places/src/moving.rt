@@ -1,129 +1,71 @@
 // The moves that bring operands to registers, send results home and copy.
-ghost use Rattle.std.specs.Prelude.{◌≡◌, ℕ, ◌+◌, ◌-◌, ◌<◌, ◌≤◌, true, [], ◌∷◌, length};
+ghost use Rattle.std.specs.Prelude.{◌≡◌, ◌-◌, ◌<◌, true, [], ◌∷◌, length};
 ghost use Rattle.allocation.specs.Ranges.{move_fits};
-ghost use Rattle.places.specs.Places.{locations};
-ghost use Rattle.places.specs.Publish.{◌⇐◌, register_for, bring, bring_two, send, copy};
-ghost use Rattle.places.specs.Steps.{Added, Open};
+ghost use Rattle.places.specs.Publish.{◌⇐◌, bring, bring_two, send, copy};
+ghost use Rattle.places.specs.Steps.{Added, Open, place_of};
 
-use crate::place::Place;
+use crate::layout::Layout;
 use allocation::line::Move;
 use allocation::tables::Tables;
 
-// The location of temporary v.
-pub(crate) fn locate(places: &[Place], registers: u8, v: u8) -> u8
-    requires few { registers ≤ 16 }
-    requires within { v < length places.now }
-    requires short { length places.now ≤ 48 }
-    ensures { result ≡ locations registers places.now v }
-{
-    match places[v as usize] {
-        Place::Home => registers + v,
-        Place::Register(x) => x,
+impl Layout<'_> {
+    // Brings temporary v to the register `spare`, where it stands in its slot.
+    pub(crate) fn bring(&self, tables: &mut Tables, v: u8, spare: u8)
+        requires ready { Open tables.old self.now 1 }
+        requires within { v < length self.now.places.now }
+        requires spare { spare < self.now.registers }
+        ensures { Added tables.old tables.new (bring self.now.registers spare (place_of self.now v)) }
+    {
+        let from = self.locate(v);
+        if from >= self.registers {
+            tables.push_move(Move { to: spare, from });
+        }
     }
-}
 
-// The register by which a main line names a location: itself, or `spare` in place of a slot.
-pub(crate) fn name_register(registers: u8, spare: u8, location: u8) -> u8
-    ensures { result ≡ register_for registers spare location }
-{
-    if location < registers {
-        location
-    } else {
-        spare
+    // Brings two operands.
+    pub(crate) fn bring_both(&self, tables: &mut Tables, first: u8, second: u8)
+        requires ready { Open tables.old self.now 2 }
+        requires first { first < length self.now.places.now }
+        requires second { second < length self.now.places.now }
+        ensures { Added tables.old tables.new (bring_two self.now.registers (place_of self.now first) (place_of self.now second)) }
+    {
+        self.bring(tables, first, self.registers - 2);
+        self.bring(tables, second, self.registers - 1);
     }
-}
 
-// Brings what stands in a slot to the register `spare`.
-fn bring_to(tables: &mut Tables, registers: u8, slots: u8, spare: u8, location: u8)
-    requires ready { Open tables.old registers slots 1 }
-    requires spare { spare < registers }
-    requires location { location < registers + slots }
-    ensures { Added tables.old tables.new (bring registers spare location) }
-{
-    if location >= registers {
-        tables.push_move(Move {
-            to: spare,
-            from: location,
-        });
+    // Moves the result v from register R - 2 to its slot.
+    pub(crate) fn send_home(&self, tables: &mut Tables, v: u8)
+        requires ready { Open tables.old self.now 1 }
+        requires within { v < length self.now.places.now }
+        ensures { Added tables.old tables.new (send self.now.registers (place_of self.now v)) }
+    {
+        let to = self.locate(v);
+        if to >= self.registers {
+            tables.push_move(Move {
+                to,
+                from: self.registers - 2,
+            });
+        }
     }
-}
 
-// Brings a first operand, to register R - 2.
-pub(crate) fn bring_first(tables: &mut Tables, registers: u8, slots: u8, location: u8)
-    requires ready { Open tables.old registers slots 1 }
-    requires location { location < registers + slots }
-    ensures { Added tables.old tables.new (bring registers (registers - 2) location) }
-{
-    bring_to(tables, registers, slots, registers - 2, location)
-}
-
-// Brings a second operand, to register R - 1.
-fn bring_second(tables: &mut Tables, registers: u8, slots: u8, location: u8)
-    requires ready { Open tables.old registers slots 1 }
-    requires location { location < registers + slots }
-    ensures { Added tables.old tables.new (bring registers (registers - 1) location) }
-{
-    bring_to(tables, registers, slots, registers - 1, location)
-}
-
-// Brings two operands.
-pub(crate) fn bring_both(tables: &mut Tables, registers: u8, slots: u8, first: u8, second: u8)
-    requires ready { Open tables.old registers slots 2 }
-    requires first { first < registers + slots }
-    requires second { second < registers + slots }
-    ensures { Added tables.old tables.new (bring_two registers first second) }
-{
-    bring_first(tables, registers, slots, first);
-    bring_second(tables, registers, slots, second);
-}
-
-// Moves a result from register R - 2 to its slot.
-pub(crate) fn send_home(tables: &mut Tables, registers: u8, slots: u8, location: u8)
-    requires ready { Open tables.old registers slots 1 }
-    requires location { location < registers + slots }
-    ensures { Added tables.old tables.new (send registers location) }
-{
-    if location >= registers {
-        tables.push_move(Move {
-            to: location,
-            from: registers - 2,
-        });
-    }
-}
-
-// Makes a move in range.
-fn push(tables: &mut Tables, registers: u8, slots: u8, to: u8, from: u8)
-    requires ready { Open tables.old registers slots 1 }
-    requires fits { move_fits registers slots (to ⇐ from) ≡ true }
-    ensures { Added tables.old tables.new ((to ⇐ from) ∷ []) }
-{
-    tables.push_move(Move { to, from });
-}
-
-// Copies one slot to another through register R - 2.
-fn copy_home(tables: &mut Tables, registers: u8, slots: u8, to: u8, from: u8)
-    requires ready { Open tables.old registers slots 2 }
-    requires to { to < registers + slots }
-    requires from { from < registers + slots }
-    ensures { Added tables.old tables.new (((registers - 2) ⇐ from) ∷ (to ⇐ (registers - 2)) ∷ []) }
-{
-    push(tables, registers, slots, registers - 2, from);
-    push(tables, registers, slots, to, registers - 2);
-}
-
-// Copies one location to another; two slots go through register R - 2.
-pub(crate) fn copy_to(tables: &mut Tables, registers: u8, slots: u8, to: u8, from: u8)
-    requires ready { Open tables.old registers slots 2 }
-    requires to { to < registers + slots }
-    requires from { from < registers + slots }
-    ensures { Added tables.old tables.new (copy registers to from) }
-{
-    if to == from {
-        return;
-    }
-    if to < registers || from < registers {
-        push(tables, registers, slots, to, from);
-    } else {
-        copy_home(tables, registers, slots, to, from);
+    // Copies one temporary to another; two slots go through register R - 2.
+    pub(crate) fn copy(&self, tables: &mut Tables, target: u8, origin: u8)
+        requires ready { Open tables.old self.now 2 }
+        requires target { target < length self.now.places.now }
+        requires origin { origin < length self.now.places.now }
+        ensures { Added tables.old tables.new (copy self.now.registers (place_of self.now target) (place_of self.now origin)) }
+    {
+        let to = self.locate(target);
+        let from = self.locate(origin);
+        if to == from {
+            return;
+        }
+        if to < self.registers || from < self.registers {
+            tables.push_move(Move { to, from });
+        } else {
+            let through = self.registers - 2;
+            tables.push_move(Move { to: through, from });
+            tables.push_move(Move { to, from: through });
+        }
     }
 }

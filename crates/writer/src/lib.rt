@@ -16,7 +16,7 @@ use crate::sink::{Room, Sink, Writer};
 use allocation::heading::Heading;
 use allocation::line::{Main, Move, Row};
 use allocation::tables::Tables;
-use allocation::words::{Edge, Title, Word};
+use allocation::words::{Edge, Word};
 use refusal::Refusal;
 use text::put::Piece;
 use text::words::Spelled;
@@ -129,7 +129,7 @@ fn put_heading<S: Sink>(sink: &mut S, heading: Heading, nodes: usize) -> Option<
     ensures { Puts S.Sink.room S.Sink.Takes (ended (heading_fields heading.registers heading.slots nodes)) sink.old result sink.new }
 {
     sink.put(&[
-        word_piece(Title::Alloc),
+        Piece::Word(b"alloc"),
         Piece::Number(heading.registers as u64),
         Piece::Number(heading.slots as u64),
         Piece::Number(nodes as u64),

@@ -4,5 +4,5 @@ use Rattle.loader.specs.Live.{live_sets}
 use Rattle.colouring.specs.Colouring.{some, demands, rows}
 use Rattle.colouring.proofs.conflicts.find_demands.Given as goal
 
-abbrev pub invariant-loop-n : goal.invariant-loop-n
-invariant-loop-n l = (u v : ℕ) → rows l.table u v ≡ some l.n (λ n. demands (live_sets l.live) (node_at l.nodes n) u v)
+abbrev pub invariant-loop-node : goal.invariant-loop-node
+invariant-loop-node l = (u v : ℕ) → rows l.table u v ≡ some l.node-index (λ n. demands (live_sets l.source.live.now) (node_at l.node-items n) u v)

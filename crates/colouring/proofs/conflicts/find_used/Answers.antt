@@ -1,20 +1,22 @@
-use Rattle.std.proofs.Common.{ℕ, Bool, ◌||◌, Option, ap, ◌∙◌, arith}
+use Rattle.std.proofs.Common.{ℕ, ◌||◌, length, Option, sym, ap, ◌∙◌, ap₂, rules}
+use Rattle.std.proofs.lemmas.List.{length_push}
+use Rattle.std.proofs.lemmas.Slice.Zip.{zip_turn}
 use Rattle.sets.specs.Masks.{bit, names}
 use Rattle.source.specs.Nodes.{node_at, result_of}
-use Rattle.source.proofs.Soundness.{all_sound}
+use Rattle.source.specs.Tables.{nodes_in}
+use Rattle.source.specs.declared.node.Node.TheVariants.{Const}
 use Rattle.loader.specs.Live.{live_sets, is_result}
-use Rattle.colouring.proofs.Rows.{some_more, small, result-below}
+use Rattle.colouring.specs.Colouring.{some}
+use Rattle.colouring.proofs.Rows.{some_more}
 use Rattle.colouring.proofs.conflicts.find_used.Goals as goal
 
-pub mask_of-requires : goal.mask_of-requires
-mask_of-requires c =
-    let node = node_at c.args.nodes.now c.loop-n.n in
-    small c.args.heading.temporaries (result_of node) c.find_result.result (omega arith) c.find_result.ensures (result-below _ _ node (all_sound c.args.heading.temporaries c.args.nodes.now c.requires.sound c.loop-n.n (omega arith)))
-
-pub loop-n-preserved : goal.loop-n-preserved
-loop-n-preserved c v =
-    let n = c.loop-n.n in
-    let live = c.args.live.now in
-    let nodes = c.args.nodes.now in
-    c.union-set.ensures v ∙ some_more n (λ m. live_sets live m v || is_result (node_at nodes m) v) (bit c.loop-n.set v) (bit c.union.result v) (c.loop-n.invariant v)
-    (c.union.ensures v ∙ ap (λ (b : Bool). live_sets live n v || b) (c.mask_of.ensures v ∙ ap (λ (o : Option ℕ). names o v) c.find_result.ensures))
+pub loop-node-preserved : goal.loop-node-preserved
+loop-node-preserved c v =
+    let nodes = nodes_in c.args.source.now.table.now in
+    let words = c.args.source.now.live.now in
+    let n = length c.loop-node.yielded in
+    let p : ℕ → _ = λ k. live_sets words k v || is_result (node_at nodes k) v in
+    let at = zip_turn nodes words c.loop-node.yielded c.into_iter-node-iterator.result c.loop-node.node-iterator c.next.new.self _ (search rules) (search rules) c.loop-node.yielded_by (c.in-Some.node, c.in-Some.live) c.in-Some.is c.next.ensures.steps in
+    c.union-set.ensures v ∙ some_more n p (bit c.loop-node.set v) (bit c.union.result v) (c.loop-node.invariant v)
+    (c.union.ensures v ∙ ap₂ ◌||◌ (ap (λ (w : ℕ). bit w v) (at.3 0)) (c.mask_of.ensures v ∙ ap (λ (o : Option ℕ). names o v) (c.assigned.ensures ∙ ap result_of (at.2 (Const 0 0 0)))))
+    ∙ ap (λ (k : ℕ). some k p) (sym (length_push c.loop-node.yielded (c.in-Some.node, c.in-Some.live)))

@@ -1,9 +1,10 @@
-use Rattle.std.proofs.Common.{◌≡◌, ℕ, ◌||◌}
+use Rattle.std.proofs.Common.{◌≡◌, ℕ, ◌||◌, length}
 use Rattle.sets.specs.Masks.{bit}
 use Rattle.source.specs.Nodes.{node_at}
+use Rattle.source.specs.Tables.{nodes_in}
 use Rattle.loader.specs.Live.{live_sets, is_result}
 use Rattle.colouring.specs.Colouring.{some}
 use Rattle.colouring.proofs.conflicts.find_used.Given as goal
 
-abbrev pub invariant-loop-n : goal.invariant-loop-n
-invariant-loop-n l = (v : ℕ) → bit l.set v ≡ some l.n (λ n. live_sets l.live n v || is_result (node_at l.nodes n) v)
+abbrev pub invariant-loop-node : goal.invariant-loop-node
+invariant-loop-node l = (v : ℕ) → bit l.set v ≡ some (length l.yielded) (λ n. live_sets l.fn.source.live.now n v || is_result (node_at (nodes_in l.fn.source.table.now) n) v)

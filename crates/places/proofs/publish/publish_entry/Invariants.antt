@@ -1,9 +1,0 @@
-use Rattle.sets.specs.Masks.{bit}
-use Rattle.places.specs.Places.{locations}
-use Rattle.places.specs.Publish.{entry_moves}
-use Rattle.places.specs.Steps.{Added}
-use Rattle.places.proofs.publish.publish_entry.Given as goal
-
--- the moves of the parameters below i are there
-abbrev pub invariant-loop-i : goal.invariant-loop-i
-invariant-loop-i l = Added l.initial.tables l.tables (entry_moves l.registers (locations l.registers l.places) (bit l.live) 0 l.i)
