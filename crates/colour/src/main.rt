@@ -4,16 +4,14 @@
 use allocation::tables::Tables;
 use anyhow::anyhow;
 use colouring::placer::Colouring;
+use input::read_text;
 use loader::holder::Loader;
 use placement::place;
 use refusal::Refusal;
 use std::env;
-use std::io::{Read, Write};
+use std::io::Write;
 use text::number::read_number;
 use writer::write;
-
-// One byte more than a text may have, so that a longer input is refused by its size and never read to its end.
-const MOST: u64 = 32_769;
 
 // Words of work memory: enough for 128 nodes.
 const WORDS: usize = 8_192;
@@ -38,8 +36,7 @@ fn place_source(
 // Whether the source was placed.
 fn colour(rt: &HostRuntime, registers: u64) -> anyhow::Result<bool> {
     let heap = rt.alloc();
-    let mut source = Vec::new(heap);
-    rt.stdin().take(MOST).read_to_end(&mut source)?;
+    let source = read_text(heap, rt.stdin())?;
     let mut loader = Loader::new(heap)?;
     let mut tables = Tables::new(heap)?;
     let mut memory = vec![in heap; 0u64; WORDS]?;

@@ -2,12 +2,9 @@
 
 // Reads a source text on standard input and prints its three counts, or the refusal.
 use anyhow::anyhow;
+use input::read_text;
 use loader::holder::Loader;
 use std::env;
-use std::io::Read;
-
-// One byte more than a text may have, so that a longer input is refused by its size and never read to its end.
-const MOST: u64 = 32_769;
 
 // Whether the source was taken.
 fn run(rt: &HostRuntime) -> anyhow::Result<bool> {
@@ -15,8 +12,7 @@ fn run(rt: &HostRuntime) -> anyhow::Result<bool> {
         eprintln!(rt; "usage: load < SOURCE")?;
         return Ok(false);
     }
-    let mut text = Vec::new(rt.alloc());
-    rt.stdin().take(MOST).read_to_end(&mut text)?;
+    let text = read_text(rt.alloc(), rt.stdin())?;
     let mut loader = Loader::new(rt.alloc())?;
     match loader.load(text.as_slice()) {
         Ok((temporaries, nodes, most)) => {

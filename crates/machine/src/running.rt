@@ -58,10 +58,10 @@ fn next_node(node: Node, edge: bool) -> u16
     ensures { result ≡ successor node edge }
 {
     match node {
-        Node::Const { next, .. } => next,
-        Node::Mov { next, .. } => next,
-        Node::Binary { next, .. } => next,
-        Node::Call { next, .. } => next,
+        Node::Const { next, .. }
+        | Node::Mov { next, .. }
+        | Node::Binary { next, .. }
+        | Node::Call { next, .. } => next,
         Node::Branch { yes, no, .. } => if edge { yes } else { no },
         Node::Return { .. } => 0,
     }

@@ -1,22 +1,19 @@
 // What the calls of a script bring: texts, memory, arguments, hosts, frames, lists and buffers.
-use crate::error::Error;
+use crate::error::{Error, LineError};
 use crate::kind::Hosted;
 use crate::script::{FrameSize, Line, RunLine, read_line};
 use choices::frame::AnyFrame;
 use choices::placer::AnyPlacer;
+use input::read_text;
 use machine::outcome::Entry;
 use service::call::{Call, Load, Offer, Place, Run, Write};
 use std::alloc::{AllocError, Global};
 use std::fs::File;
 use std::io;
-use std::io::Read;
 use std::str::FromStr;
 use values::frame::{Banked, Flat};
 use values::kind::Kind;
 use values::word::NotAValue;
-
-// One byte more than a text may have, so that a longer file is refused by its size and never read to its end.
-const MOST: u64 = 32_769;
 
 // The most calls of a script.
 pub const MOST_CALLS: usize = 1_024;
@@ -30,9 +27,7 @@ pub const UNWRITTEN: u64 = u64::MAX;
 pub type ScriptCall<V, H> = Call<V, H, AnyFrame<V>, AnyPlacer>;
 
 fn read_file(rt: &HostRuntime, path: &str) -> io::Result<Vec<u8>> {
-    let mut text = Vec::new(rt.alloc());
-    File::open(rt, path)?.take(MOST).read_to_end(&mut text)?;
-    Ok(text)
+    read_text(rt.alloc(), File::open(rt, path)?)
 }
 
 fn bring_cells<V: Kind>(heap: Global, cells: usize) -> Result<Vec<V>, AllocError> {
@@ -64,80 +59,70 @@ fn bring_list<V: Kind>(heap: Global, entries: usize) -> Result<Vec<Entry<V>>, Al
     vec![in heap; entry; entries]
 }
 
-// The values that are written, or none where one of them is no value: none at all are `.`, and others are parted by commas.
+// The values that are written: none is `.`, and others are parted by commas.
 fn bring_values<V: FromStr<Err = NotAValue> + Drop>(
     heap: Global,
     field: &str,
-) -> Result<Option<Vec<V>>, AllocError> {
+) -> Result<Vec<V>, LineError> {
     let mut values = Vec::new(heap);
     if field == "." {
-        return Ok(Some(values));
+        return Ok(values);
     }
     for part in field.split(',') {
-        let Ok(value) = part.parse() else {
-            return Ok(None);
-        };
-        values.push(value)?;
+        values.push(part.parse()?)?;
     }
-    Ok(Some(values))
+    Ok(values)
 }
 
 fn bring_run<V: Kind + FromStr<Err = NotAValue>, H: Hosted<V>>(
     heap: Global,
     line: RunLine<'_>,
-) -> Result<Option<ScriptCall<V, H>>, AllocError> {
-    let Some(args) = bring_values(heap, line.args)? else {
-        return Ok(None);
-    };
-    let Some(values) = bring_values(heap, line.values)? else {
-        return Ok(None);
-    };
-    let Some(host) = H::from_values(line.host, values) else {
-        return Ok(None);
-    };
-    Ok(Some(Call::Run(Run {
+) -> Result<Run<V, H, AnyFrame<V>>, LineError> {
+    let args = bring_values(heap, line.args)?;
+    let values = bring_values(heap, line.values)?;
+    Ok(Run {
         budget: line.budget,
         args,
-        host,
+        host: H::from_values(line.host, values).ok_or(LineError::NoCall)?,
         frame: bring_frame(heap, line.frame)?,
         list: bring_list(heap, line.list)?,
         answer: None,
-    })))
+    })
 }
 
-// The call of a line, with all that it brings; none if it is no call after all.
+// The call of a line, with all that it brings.
 fn bring_call<V: Kind + FromStr<Err = NotAValue>, H: Hosted<V>>(
     rt: &HostRuntime,
     line: Line<'_>,
-) -> io::Result<Option<ScriptCall<V, H>>> {
+) -> Result<ScriptCall<V, H>, LineError> {
     let heap = rt.alloc();
-    match line {
-        Line::Load { path } => {
-            let text = read_file(rt, path)?;
-            Ok(Some(Call::Load(Load { text, answer: None })))
-        }
-        Line::Offer { path, words } => Ok(Some(Call::Offer(Offer {
+    Ok(match line {
+        Line::Load { path } => Call::Load(Load {
+            text: read_file(rt, path)?,
+            answer: None,
+        }),
+        Line::Offer { path, words } => Call::Offer(Offer {
             text: read_file(rt, path)?,
             memory: vec![in heap; UNWRITTEN; words]?,
             answer: None,
-        }))),
+        }),
         Line::Place {
             placer,
             registers,
             words,
-        } => Ok(Some(Call::Place(Place {
+        } => Call::Place(Place {
             placer,
             registers,
             memory: vec![in heap; UNWRITTEN; words]?,
             answer: None,
-        }))),
-        Line::Run(run) => Ok(bring_run(heap, run)?),
-        Line::Write { at, size } => Ok(Some(Call::Write(Write {
+        }),
+        Line::Run(run) => Call::Run(bring_run(heap, run)?),
+        Line::Write { at, size } => Call::Write(Write {
             buffer: vec![in heap; 0u8; size]?,
             at,
             answer: None,
-        }))),
-    }
+        }),
+    })
 }
 
 // Adds the call of a line. A blank line is no call and does no harm.
@@ -150,15 +135,16 @@ fn add_line<V: Kind + FromStr<Err = NotAValue>, H: Hosted<V>>(
     if text.is_empty() {
         return Ok(());
     }
+    let of_line = |error| Error::Line { line, error };
     if calls.len() >= MOST_CALLS {
-        return Err(Error::OneMore { line });
+        return Err(of_line(LineError::OneMore));
     }
     let fields: Vec<&str> = text.split('\t').collect(rt.alloc())?;
-    let read = read_line(fields.as_slice()).ok_or(Error::NoCall { line })?;
-    let call = bring_call(rt, read)
-        .map_err(|error| Error::Missing { line, error })?
-        .ok_or(Error::NoCall { line })?;
-    calls.push(call).map_err(AllocError::from)?;
+    let call = read_line(fields.as_slice())
+        .ok_or(LineError::NoCall)
+        .and_then(|read| bring_call(rt, read))
+        .map_err(of_line)?;
+    calls.push(call)?;
     Ok(())
 }
 

@@ -14,20 +14,18 @@ use crate::script::MOST_BYTES;
 use crate::show::show_call;
 use anyhow::anyhow;
 use choices::host::WordHost;
+use input::read_first;
 use service::serve::serve;
 use std::env;
 use std::fmt::Display;
-use std::io::Read;
 use std::str::FromStr;
 use values::host::Script;
 use values::kind::Kind;
 use values::word::{BlankWord, NotAValue, Word};
 
 fn read_script(rt: &HostRuntime) -> Result<String, Error> {
-    let mut text = Vec::new(rt.alloc());
-    rt.stdin()
-        .take(MOST_BYTES as u64 + 1)
-        .read_to_end(&mut text)?;
+    // one byte more than a script may have tells that it is too long
+    let text = read_first(rt.alloc(), rt.stdin(), MOST_BYTES + 1)?;
     if text.len() > MOST_BYTES {
         return Err(Error::TooLong);
     }

@@ -2,28 +2,23 @@
 
 // Reads a source and an allocation from two files, and prints whether the allocation is accepted, or the refusal.
 use anyhow::anyhow;
+use input::read_text;
 use loader::holder::Loader;
 use offer::offer;
 use reading::reader::Reader;
 use std::fs::File;
-use std::io::Read;
 use std::{env, io};
-
-// One byte more than a text may have, so that a longer file is refused by its size and never read to its end.
-const MOST: u64 = 32_769;
 
 // Words of work memory: enough for 256 nodes.
 const WORDS: usize = 16_384;
 
-fn read_text(rt: &HostRuntime, path: &str) -> io::Result<Vec<u8>> {
-    let mut text = Vec::new(rt.alloc());
-    File::open(rt, path)?.take(MOST).read_to_end(&mut text)?;
-    Ok(text)
+fn read_file(rt: &HostRuntime, path: &str) -> io::Result<Vec<u8>> {
+    read_text(rt.alloc(), File::open(rt, path)?)
 }
 
 // The text of a file, or none, and then why is said.
 fn text_of(rt: &HostRuntime, path: &str) -> io::Result<Option<Vec<u8>>> {
-    match read_text(rt, path) {
+    match read_file(rt, path) {
         Ok(text) => Ok(Some(text)),
         Err(error) => {
             eprintln!(rt; "verify: {path}: {error}")?;
