@@ -8,8 +8,8 @@ use Rattle.engine.proofs.state.Engine.offer.Goals as goal
 pub returns-in_default : goal.returns-in_default
 returns-in_default c = none_offered (held c.args.self.now) c.args.text.now c.args.memory.now (ap (option_map (λ h. source_in h c.args.self.now.loader.tables.nodes)) c.in_default.ensures)
 
-pub invariant_of-self-in_ok-count : goal.invariant_of-self-in_ok-count
-invariant_of-self-in_ok-count c =
+pub invariant_of-self-2 : goal.invariant_of-self-2
+invariant_of-self-2 c =
     let e = c.args.self.now in
     let shows = c.in-Some.ensures in
     let h = c.in-Some.loaded.heading in record {

@@ -10,8 +10,8 @@ pub returns-in_default : goal.returns-in_default
 returns-in_default g c =
     none_placed (g.P.Placer.places c.args.placer.now) (held c.args.self.now) c.args.registers c.args.memory.now (ap (option_map (λ h. source_in h c.args.self.now.loader.tables.nodes)) c.in_default.ensures)
 
-pub invariant_of-self-in_ok-count : goal.invariant_of-self-in_ok-count
-invariant_of-self-in_ok-count g c =
+pub invariant_of-self-2 : goal.invariant_of-self-2
+invariant_of-self-2 g c =
     let e = c.args.self.now in
     let shows = c.in-Some.ensures in
     let h = c.in-Some.loaded.heading in record {
