@@ -2,7 +2,7 @@
 use Rattle.std.proofs.Common.{◌≡◌, ℕ, suc, ◌+◌, ◌<◌, ◌≤◌, Bool, true, List, [], ◌∷◌, ◌++◌, length, take, drop, set, Some, None, Option, sym, refl, ap, ◌∙◌, ap₂, append_assoc, append-nil, arith, length-set}
 use Rattle.std.specs.List.{between}
 use Rattle.std.proofs.lemmas.List.{take_more_set, drop-set-lt}
-use Rattle.source.specs.Nodes.{node_at, successor}
+use Rattle.source.specs.Nodes.{action, sound, node_at, successor}
 use Rattle.source.specs.declared.node.Node.{Node}
 use Rattle.allocation.specs.Allocations.{Line, line_at, target}
 use Rattle.allocation.specs.Ranges.{row_at}
@@ -18,7 +18,7 @@ use Rattle.allocation.specs.Lines.{main_action, edge_moves, line_of}
 use Rattle.machine.specs.Machine.{asks, Log, Progress, goes, ends, Cells, Effect, carried, carry_line, store, write_all, move_all, allocated_step}
 use Rattle.machine.specs.Run.{code_source, code_allocation}
 use Rattle.machine.specs.Steps.{Standing, log_of, cells_of, InRange, main_effect, Moved, Done, Stepped}
-use Rattle.machine.proofs.Ranges.{RowFit, line_is, part_length, edge_length}
+use Rattle.machine.proofs.Ranges.{RowFit, row_here, sound_next, line_is, part_length, edge_length}
 
 module _ {A : Type 0} where
   take-write_all : (r : ℕ) (xs c : List A) → r + length xs ≤ length c → take (r + length xs) (write_all r xs c) ≡ take r c ++ xs
@@ -68,15 +68,22 @@ module _ {V S : Type 0} (K : Arithmetic V) (E : Answers S V) where
   told_room (Main.Return a) cs h n k l r = omega arith
 
   -- a node, from where the run stands (b): its `in` moves (m), and its main line, after which d is held
-  module _ (code : Code) (b m : Standing V S) (n : Node) (row : Row) (ins : List Move)
+  module _ (code : Code) (b m : Standing V S) (n : Node) (ins : List Move)
       (n-is : n ≡ node_at code.nodes.now b.at.node)
-      (row_is : row ≡ row_at code.rows.now b.at.node)
-      (fit : RowFit code.locations.registers (length code.moves.now) row)
-      (ins-is : ins ≡ between row.ins row.outs code.moves.now)
+      (ins-is : ins ≡ between (row_at code.rows.now b.at.node).ins (row_at code.rows.now b.at.node).outs code.moves.now)
       (moved : Moved K ins b m)
       (same-wide : length m.cells ≡ length b.cells)
       (range : InRange code b)
-      (room : asks (main_action row.main) ≡ true → b.at.entries < length b.list) where
+      (asked : asks (Some (action n)) ≡ true → b.at.entries < length b.list) where
+    abbrev row : Row
+    row = row_at code.rows.now b.at.node
+
+    fit : RowFit code.locations.registers (length code.moves.now) row
+    fit = row_here code b.at.node range.runnable range.node
+
+    room : asks (main_action row.main) ≡ true → b.at.entries < length b.list
+    room e = asked (ap (λ (k : Node). asks (Some (action k))) n-is ∙ range.runnable.asking b.at.node (omega (arith, range.runnable.long, range.node)) e)
+
     abbrev line : Line
     line = line_at code.moves.now row
 
@@ -92,13 +99,13 @@ module _ {V S : Type 0} (K : Arithmetic V) (E : Answers S V) where
     -- the step, by what the main line comes to
     settled : allocated_step K E (code_source code) (code_allocation code) (log_of b) (cells_of b) ≡ carried n x.taken x.told x.host (log_of b) (cells_of m) then_moves
     settled =
-        let there : line_of (code_allocation code) b.at.node ≡ line = line_is code.moves.now code.rows.now b.at.node ∙ ap (line_at code.moves.now) (sym row_is) in
+        let there : line_of (code_allocation code) b.at.node ≡ line = line_is code.moves.now code.rows.now b.at.node in
         ap₂ {C = Progress V S (Cells V)} (λ k l. carry_line K E k l (log_of b) (move_all K l.ins (cells_of b))) (sym n-is) there
         ∙ ap (carry_line K E n line (log_of b)) (ap (λ ms. move_all K ms (cells_of b)) (sym ins-is) ∙ moved.cells)
         ∙ ap (λ h. let y = main_effect K E row.main m.cells h in carried n y.taken y.told y.host (log_of b) (cells_of m) (λ e. move_all K (edge_moves line e) (record { cells = store (target row.main) y.value m.cells; moves = m.at.moves }))) (sym moved.host)
 
     ins_few : length ins ≤ length code.moves.now
-    ins_few = part_length code.moves.now ins row.ins row.outs ins-is (omega arith)
+    ins_few = part_length code.moves.now ins row.ins row.outs ins-is (omega (arith, fit.outs, fit.alts, fit.end))
 
     within : b.at.entries + length x.told ≤ length b.list
     within = told_room row.main m.cells m.host b.at.entries (length b.list) range.entries room
@@ -154,8 +161,8 @@ module _ {V S : Type 0} (K : Arithmetic V) (E : Answers S V) where
           in_range = after_line d t done;
         }
 
-    pub stepped_edge : (e : Bool) (d : Standing V S) → Done K E row.main counted (ControlFlow.Continue e) d → (outs : List Move) (o : Standing V S) → outs ≡ edge_moves line e → Moved K outs d o → length o.cells ≡ length d.cells → (next : ℕ) → next ≡ successor n e → successor n e < length code.nodes.now → Stepped K E code b (ControlFlow.Continue tt) (record o { at = record o.at { node = next } })
-    stepped_edge e d done outs o outs-is out w next to there =
+    pub stepped_edge : (e : Bool) (d : Standing V S) → Done K E row.main counted (ControlFlow.Continue e) d → (outs : List Move) (o : Standing V S) → outs ≡ edge_moves line e → Moved K outs d o → length o.cells ≡ length d.cells → (next : ℕ) → next ≡ successor n e → Stepped K E code b (ControlFlow.Continue tt) (record o { at = record o.at { node = next } })
+    stepped_edge e d done outs o outs-is out w next to =
         let t : ControlFlow V Bool = ControlFlow.Continue e in
         let a : Standing V S = record o { at = record o.at { node = next } } in
         let at = stands d t done in
@@ -165,6 +172,7 @@ module _ {V S : Type 0} (K : Arithmetic V) (E : Answers S V) where
         let same : then_moves e ≡ cells_of o = ap₂ (λ ms c. move_all K ms c) (sym outs-is) (cells_is d (store (target row.main) x.value m.cells) m.at.moves (sym done.cells) (ap (λ p. p.moves) (sym done.at))) ∙ out.cells in
         let few : length outs ≤ length code.moves.now = edge_length code.locations.registers code.moves.now outs row e outs-is fit in
         let r = after_line d t done in
+        let there : successor n e < length code.nodes.now = sound_next code.source.temporaries (length code.nodes.now) n e range.runnable.some (ap (sound code.source.temporaries (length code.nodes.now)) n-is ∙ range.runnable.sound b.at.node range.node) in
         record {
           step = taken_step d t done ∙ ap₂ {C = Progress V S (Cells V)} goes (log_is a (successor n e) (b.at.nodes + 1) (take b.at.entries b.list ++ x.told) x.host (sym to) (sym nodes) (sym (listed d t done) ∙ ap₂ (λ (k : ℕ) (l : List (Entry V)). take k l) (sym entries) (sym out.list)) (sym done.host ∙ sym out.host)) same;
           nodes = nodes;

@@ -44,6 +44,7 @@ impl Position {
 
 // What a run carries out, where it stands, and what it is lent. Each loan has a lifetime of its own, by which it is
 // known what the lender holds afterwards.
+// The list is no struct of its own with the count of its entries: through a struct in a struct nothing is known of the lender.
 #[derive(Drop)]
 pub(crate) struct Running<'c, 'h, 'f, 'l, V, H, F> {
     pub(crate) code: Code<'c>,
