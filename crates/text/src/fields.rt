@@ -1,7 +1,7 @@
 // A field of a line: a word, a number or a location. It borrows the text and keeps its place.
-ghost use Rattle.std.specs.Prelude.{◌≡◌, ◌+◌, ◌<◌, ◌≤◌, map, length, drop, Some, IsSome, IfSome, IfNone};
+ghost use Rattle.std.specs.Prelude.{◌≡◌, ◌+◌, ◌<◌, ◌≤◌, [], map, length, drop, Some, IsSome, IfSome, IfNone};
 ghost use Rattle.std.specs.Option.{option_map};
-ghost use Rattle.text.specs.Fields.{location_of, shape_of, shape, bytes, start_of, shapes_of, starts, number_between, number_below, word_in, says, after_title, first_word};
+ghost use Rattle.text.specs.Fields.{word, location_of, shape_of, shape, bytes, start_of, shapes_of, starts, number_between, number_below, word_in, says, after_title, first_word};
 ghost use Rattle.text.specs.Parts.{fields_of};
 
 use crate::lines::{Fields, Line};
@@ -65,6 +65,8 @@ pub(crate) fn read_field<'a>(text: &'a [u8], start: usize) -> Field<'a>
 
 // What the unused places of a row hold.
 impl<'a> Default for Field<'a> {
+    ghost is_default = { λ f. (shape f ≡ word []) × (bytes f ≡ []) × (start_of f ≡ 0) };
+
     fn default() -> Field<'a> {
         Field::Word {
             text: &[],
