@@ -1,5 +1,5 @@
 -- Laws of parts.
-use Rattle.std.proofs.Common.{◌≡◌, ℕ, ◌+◌, ◌<◌, ◌≤◌, Bool, true, false, cond, eqb, ltb, List, [], ◌∷◌, ◌++◌, length, take, Some, None, Option, sym, refl, ap, ◌∙◌, arith, ltb-false, Bor, MatchOption}
+use Rattle.std.proofs.Common.{◌≡◌, ℕ, ◌+◌, ◌<◌, ◌≤◌, Bool, true, false, cond, eqb, ltb, List, [], ◌∷◌, ◌++◌, length, take, Some, None, Option, sym, refl, ap, ◌∙◌, arith, length-append, ltb-false, Bor, MatchOption}
 use Rattle.std.proofs.lemmas.List.{take_all}
 use Rattle.std.proofs.lemmas.List.Recursion.{is_position_or_len}
 use Rattle.std.proofs.lemmas.Bool.{cond-true, cond-false, cond_both}
@@ -105,6 +105,10 @@ pub line_first : (s p : List ℕ) (r : Option (Bor (List ℕ))) (d : Bor (List �
 unfolding lines_of
 line_first s p None d some first cut none = parts_whole 10 s (ap length (sym first ∙ sym cut)) some ∙ (λ i. cut i ∷ parts 10 [] (sym none i))
 line_first s p (Some x) d some first cut none = parts_more 10 [] s x.now (cut ∙ ap (λ q. q ++ 10 ∷ x.now) first) ∙ ap (λ q. q ∷ parts 10 [] x.now) (sym first)
+
+pub rest_shorter : (s p : List ℕ) (r : Option (Bor (List ℕ))) (d w : Bor (List ℕ)) → MatchOption r (s ≡ p) (λ x. s ≡ p ++ 10 ∷ x.now) → d.now ≡ [] → w ≡ unwrap_or r d → length w.now ≤ length s
+rest_shorter s p None d w cut none is = omega (arith, ap length none, ap (λ x. length x.now) is)
+rest_shorter s p (Some x) d w cut none is = omega (arith, ap length cut, length-append p (10 ∷ x.now), ap (λ x. length x.now) is)
 
 -- the field that is cut off at the first byte 9, and those after it
 pub field_first : (s p : List ℕ) (r : Option (Bor (List ℕ))) → p ≡ first_part 9 s → MatchOption r (s ≡ p) (λ x. s ≡ p ++ 9 ∷ x.now) → fields_of s ≡ p ∷ fields_in r

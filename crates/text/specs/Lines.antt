@@ -15,10 +15,10 @@ lines_left l = lines_of l.rest.now
 abbrev pub line_count : Lines → Count
 line_count = item_count lines_left
 
--- a call gives the first line that is left, with its number, and leaves the others, or finds none
+-- a call gives the first line that is left, with its place and its number, and leaves the others up to the same end, or finds none
 abbrev pub LineSteps : Lines → Option Line → Lines → Type 0
 LineSteps s r t = MatchOption r ((lines_left s ≡ []) × (t ≡ s))
-    (λ l. (lines_left s ≡ l.bytes.now ∷ lines_left t) × (l.start ≡ s.start) × (l.number ≡ s.number) × (t.number ≡ s.number + 1))
+    (λ l. (lines_left s ≡ l.bytes.now ∷ lines_left t) × (l.start ≡ s.start) × (l.number ≡ s.number) × (t.number ≡ s.number + 1) × (t.start + length t.rest.now ≡ s.start + length s.rest.now))
 
 abbrev pub fields_in : Option (Bor (List ℕ)) → List (List ℕ)
 fields_in None = []

@@ -2,7 +2,7 @@ use Rattle.std.proofs.Common.{◌≡◌, ◌<◌, ◌∷◌, length, ap, sym, re
 use Rattle.std.proofs.lemmas.Bool.Decides.{nat_tests}
 use Rattle.text.specs.Parts.{lines_of}
 use Rattle.text.specs.Lines.{lines_left}
-use Rattle.text.proofs.Splits.{line_first, no_lines}
+use Rattle.text.proofs.Splits.{line_first, rest_shorter, no_lines}
 use Rattle.text.proofs.parts.LinesIterator.next.Goals as goal
 
 pub returns-then-is_empty-clause-steps : goal.returns-then-is_empty-clause-steps
@@ -14,7 +14,9 @@ first_left c =
     line_first c.args.self.now.rest.now c.cut.result.0.now c.cut.result.1 _ some c.cut.ensures.first c.cut.ensures.rest refl ∙ ap (λ x. c.cut.result.0.now ∷ lines_of x.now) (sym c.unwrap_or-rest.ensures)
 
 pub returns-clause-steps : goal.returns-clause-steps
-returns-clause-steps c = (first_left c, refl, refl, refl)
+returns-clause-steps c =
+    let shorter = rest_shorter c.args.self.now.rest.now c.cut.result.0.now c.cut.result.1 _ c.unwrap_or-rest.result c.cut.ensures.rest refl c.unwrap_or-rest.ensures in
+    (first_left c, refl, refl, refl, omega (arith, shorter))
 
 pub returns-clause-goes : goal.returns-clause-goes
 returns-clause-goes c =
