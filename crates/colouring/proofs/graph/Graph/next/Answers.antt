@@ -1,7 +1,7 @@
 use Rattle.std.proofs.Common.{length, arith}
 use Rattle.sets.specs.Masks.{bit}
 use Rattle.colouring.specs.Colouring.{degree, rows, under}
-use Rattle.colouring.specs.Searches.{busiest_below}
+use Rattle.colouring.proofs.Searching.{busiest_below}
 use Rattle.colouring.proofs.Steps.{lowest_below}
 use Rattle.colouring.proofs.graph.Graph.next.Goals as goal
 
