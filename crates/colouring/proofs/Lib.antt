@@ -1,3 +1,4 @@
+pub mod Searching
 pub mod Steps
 pub mod Rows
 pub mod Orders

@@ -11,7 +11,8 @@ use Rattle.places.specs.declared.place.Place.TheVariants.{Home}
 use Rattle.sets.specs.Masks.{count}
 use Rattle.colouring.specs.Colouring.{some, or_else, lowest_of, busiest_of, degree, under, holds, held, to_place, less, next, chosen, after, coloured, conflict, used}
 use Rattle.colouring.specs.Chosen.{IsLowest, IsBusiest, member, left_after, IsNext, Coloured, ColouringByOrder}
-use Rattle.colouring.specs.Searches.{some_same, count_below, lowest_is, lowest_one, busiest_is, busiest_one}
+use Rattle.colouring.specs.Searches.{lowest_is, busiest_is}
+use Rattle.colouring.proofs.Searching.{some_same, count_below, lowest_one, busiest_one}
 
 -- a temporary of a list, in conflict with v, holds register r
 abbrev held_by : ℕ → (ℕ → ℕ → Bool) → List Place → List ℕ → ℕ → ℕ → Bool

@@ -9,7 +9,8 @@ use Rattle.places.specs.declared.place.Place.{Place}
 use Rattle.places.specs.declared.place.Place.TheVariants.{Home}
 use Rattle.colouring.specs.Colouring.{or_else, lowest_of, busiest_of, less, degree, under, next, held, holds, chosen, after, coloured, to_place}
 use Rattle.colouring.specs.Chosen.{IsLowest}
-use Rattle.colouring.specs.Searches.{some_same, count_below, lowest_same, lowest_is, lowest_found, busiest_same, next_within}
+use Rattle.colouring.specs.Searches.{lowest_is, next_within}
+use Rattle.colouring.proofs.Searching.{some_same, count_below, lowest_same, lowest_found, busiest_same}
 
 module _ (V K : ℕ) (conf : ℕ → ℕ → Bool) where
   pub coloured_step : (left rest : ℕ → Bool) (turns v : ℕ) (qs : List Place) → (turns ≡ 0 → ⊥) → Some v ≡ next V K conf left → ((u : ℕ) → rest u ≡ less left v u) → qs ≡ coloured V K conf (turns - 1) rest

@@ -3,9 +3,8 @@ ghost use Rattle.std.specs.Prelude.{◌≡◌, ℕ, ◌<◌, ◌≤◌, ◌&&◌
 ghost use Rattle.arrayvec.specs.ArrayVec.{array_vec_len};
 ghost use Rattle.sets.specs.Masks.{bit};
 ghost use Rattle.source.specs.Nodes.{Sound};
-ghost use Rattle.source.specs.Tables.{source_in};
 ghost use Rattle.loader.specs.Live.{live_sets};
-ghost use Rattle.places.specs.Places.{copied};
+ghost use Rattle.places.specs.Places.{source_of, live_of, copied};
 ghost use Rattle.colouring.specs.Colouring.{demands, demanded, apart, conflict, used, rows};
 
 use arrayvec::ArrayVec;
@@ -13,13 +12,6 @@ use loader::held::LoadedSource;
 use loader::live::live_out;
 use sets::mask::{below, empty, has, intersection, mask_of, single, union, without};
 use source::node::Node;
-
-// The set where the test says so, else nothing.
-fn only_if(test: bool, m: u64) -> u64
-    ensures { (v : ℕ) → bit result v ≡ (test && bit m v) }
-{
-    if test { m } else { empty() }
-}
 
 // The origin of a `mov`, which may share the place of the result.
 fn find_copied(node: Node) -> Option<u8>
@@ -44,7 +36,7 @@ fn add_demands(table: &mut [u64; 48], node: Node, live: &[u64])
 
 // What all nodes demand, one way: row d has what differs from the result d.
 fn find_demands(source: &LoadedSource) -> [u64; 48]
-    ensures { (u v : ℕ) → rows result u v ≡ demanded (source_in source.now.heading source.now.table.now) (live_sets source.now.live.now) u v }
+    ensures { (u v : ℕ) → rows result u v ≡ demanded (source_of source.now) (live_of source.now) u v }
 {
     let mut table = [0; 48];
     for node in source.table.nodes() {
@@ -60,7 +52,9 @@ fn facing(table: &[u64; 48], u: u8) -> u64
 {
     let mut set = empty();
     for (v, row) in table.iter().enumerate() {
-        set = union(set, only_if(has(*row, u), single(v as u8)));
+        if has(*row, u) {
+            set = union(set, single(v as u8));
+        }
     }
     set
 }
@@ -77,15 +71,17 @@ fn row(table: &[u64; 48], arriving: u64, u: u8) -> u64
     requires { u < 48 }
     ensures { (v : ℕ) → bit result v ≡ apart (rows table.now) (bit arriving) u v }
 {
-    let either = union(table[u as usize], facing(table, u));
-    let all = union(either, only_if(has(arriving, u), arriving));
-    without(all, single(u))
+    let mut set = union(table[u as usize], facing(table, u));
+    if has(arriving, u) {
+        set = union(set, arriving);
+    }
+    without(set, single(u))
 }
 
 // The conflicts of each temporary.
 pub(crate) fn find_conflicts(source: &LoadedSource) -> ArrayVec<u64, 48>
     ensures long { array_vec_len result ≡ source.now.heading.temporaries }
-    ensures rows { (u v : ℕ) → u < source.now.heading.temporaries → rows result.items u v ≡ conflict (source_in source.now.heading source.now.table.now) (live_sets source.now.live.now) u v }
+    ensures rows { (u v : ℕ) → u < source.now.heading.temporaries → rows result.items u v ≡ conflict (source_of source.now) (live_of source.now) u v }
 {
     let demands = find_demands(source);
     let arriving = find_arriving(source.live[0], source.heading.parameters);
@@ -98,7 +94,7 @@ pub(crate) fn find_conflicts(source: &LoadedSource) -> ArrayVec<u64, 48>
 
 // Those live into some node or the result of one.
 pub(crate) fn find_used(source: &LoadedSource) -> u64
-    ensures { (v : ℕ) → bit result v ≡ used (source_in source.now.heading source.now.table.now) (live_sets source.now.live.now) v }
+    ensures { (v : ℕ) → bit result v ≡ used (source_of source.now) (live_of source.now) v }
 {
     let mut set = empty();
     for (node, live) in source.table.nodes().iter().zip(source.live) {

@@ -1,46 +1,51 @@
 // Colouring a graph of conflicts.
 ghost use Rattle.std.specs.Prelude.{◌≡◌, ℕ, ◌<◌, ◌≤◌, true, false, not, ◌&&◌, length, IfSome, MatchOption};
 ghost use Rattle.sets.specs.Masks.{bit, count, First};
-ghost use Rattle.colouring.specs.Colouring.{degree, under, lowest_of, busiest_of, next, holds, held, to_place, less, coloured, rows};
+ghost use Rattle.colouring.specs.Colouring.{degree, under, lowest_of, busiest_of, next, holds, held, to_place, less, coloured};
 
 use places::place::Place;
 use sets::mask::{below, empty, has, intersection, lowest, single, size, union, without};
 
-// Row v is the set of the temporaries that are in conflict with v; those that are left are still to be removed.
+// Row v is the set of the temporaries that are in conflict with v. Those that are left are still to be removed, and get
+// one of the registers from 0 on, or stay at home.
 #[derive(Clone, Copy)]
 pub(crate) struct Graph<'a> {
     pub(crate) rows: &'a [u64],
     pub(crate) left: u64,
+    pub(crate) registers: u8,
     ghost few: { length rows.now ≤ 48 },
+    ghost few_registers: { registers ≤ 14 },
     ghost within: { ((v : ℕ) → length rows.now ≤ v → bit left v ≡ false) },
 }
 
 impl<'a> Graph<'a> {
+    ghost use Rattle.colouring.specs.Graphs.{order, edges};
+
     // How many of those left are in the row.
     fn degree(&self, row: u64) -> u32
-        ensures { result ≡ count (length self.now.rows.now) (λ u. bit row u && bit self.now.left u) }
+        ensures { result ≡ count (order self.now) (λ u. bit row u && bit self.now.left u) }
     {
         size(intersection(row, self.left))
     }
 
-    // Whether v is left, and of degree under k.
-    fn is_under(&self, v: u8, k: u8) -> bool
-        requires { v < length self.now.rows.now }
-        ensures { result ≡ under (length self.now.rows.now) k (rows self.now.rows.now) (bit self.now.left) v }
+    // Whether v is left, and of a degree under the number of registers.
+    fn is_under(&self, v: u8) -> bool
+        requires { v < order self.now }
+        ensures { result ≡ under (order self.now) self.now.registers (edges self.now) (bit self.now.left) v }
     {
-        has(self.left, v) && self.degree(self.rows[v as usize]) < k as u32
+        has(self.left, v) && self.degree(self.rows[v as usize]) < self.registers as u32
     }
 
-    // The lowest left of degree under k.
-    fn lowest_under(&self, k: u8) -> Option<u8>
-        ensures { result ≡ lowest_of (length self.now.rows.now) (under (length self.now.rows.now) k (rows self.now.rows.now) (bit self.now.left)) }
+    // The lowest left of a degree under the number of registers.
+    fn lowest_under(&self) -> Option<u8>
+        ensures { result ≡ lowest_of (order self.now) (under (order self.now) self.now.registers (edges self.now) (bit self.now.left)) }
     {
-        (0..self.rows.len() as u8).find(|v| self.is_under(*v, k))
+        (0..self.rows.len() as u8).find(|v| self.is_under(*v))
     }
 
     // The lowest left of greatest degree.
     fn busiest(&self) -> Option<u8>
-        ensures { result ≡ busiest_of (degree (length self.now.rows.now) (rows self.now.rows.now) (bit self.now.left)) (length self.now.rows.now) (bit self.now.left) }
+        ensures { result ≡ busiest_of (degree (order self.now) (edges self.now) (bit self.now.left)) (order self.now) (bit self.now.left) }
     {
         let mut best: Option<(u8, u32)> = None;
         for (v, row) in self.rows.iter().enumerate() {
@@ -53,12 +58,12 @@ impl<'a> Graph<'a> {
     }
 
     // The next to remove.
-    fn next(&self, k: u8) -> Option<u8>
-        ensures value { result ≡ next (length self.now.rows.now) k (rows self.now.rows.now) (bit self.now.left) }
-        ensures within { IfSome result (λ v. v < length self.now.rows.now) }
+    fn next(&self) -> Option<u8>
+        ensures value { result ≡ next (order self.now) self.now.registers (edges self.now) (bit self.now.left) }
+        ensures within { IfSome result (λ v. v < order self.now) }
     {
         // no `or_else`: the proof learns nothing of what a closure that calls `busiest` returned
-        match self.lowest_under(k) {
+        match self.lowest_under() {
             None => self.busiest(),
             found => found,
         }
@@ -66,31 +71,32 @@ impl<'a> Graph<'a> {
 
     // What is left once v is removed.
     fn remove(&self, v: u8) -> Graph<'a>
-        requires { v < length self.now.rows.now }
+        requires { v < order self.now }
         ensures rows { result.rows.now ≡ self.now.rows.now }
+        ensures registers { result.registers ≡ self.now.registers }
         ensures left { (u : ℕ) → bit result.left u ≡ less (bit self.now.left) v u }
     {
         Graph {
             rows: self.rows,
             left: without(self.left, single(v)),
+            registers: self.registers,
         }
     }
 
     // Places for those left, at most `turns` of them; every other place becomes home.
-    pub(crate) fn colour(&self, turns: usize, k: u8, places: &mut [Place])
-        requires long { length places.old ≡ length self.now.rows.now }
-        requires registers { k ≤ 14 }
-        ensures { places.new ≡ coloured (length self.now.rows.now) k (rows self.now.rows.now) turns (bit self.now.left) }
+    pub(crate) fn colour(&self, turns: usize, places: &mut [Place])
+        requires { length places.old ≡ order self.now }
+        ensures { places.new ≡ coloured (order self.now) self.now.registers (edges self.now) turns (bit self.now.left) }
     {
         if turns == 0 {
             places.fill(Place::Home);
             return;
         }
-        match self.next(k) {
+        match self.next() {
             None => places.fill(Place::Home),
             Some(v) => {
-                self.remove(v).colour(turns - 1, k, places);
-                places[v as usize] = choose_place(places, self.rows[v as usize], k);
+                self.remove(v).colour(turns - 1, places);
+                places[v as usize] = choose_place(places, self.rows[v as usize], self.registers);
             }
         }
     }

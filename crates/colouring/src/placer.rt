@@ -23,7 +23,8 @@ impl Placer for Colouring {
         let graph = Graph {
             rows: conflicts.as_slice(),
             left: intersection(find_used(source), below(source.heading.temporaries)),
+            registers: registers - 2,
         };
-        graph.colour(out.len(), registers - 2, out);
+        graph.colour(out.len(), out);
     }
 }

@@ -18,7 +18,7 @@ use Rattle.equations.specs.Equations.{memory_sets}
 use Rattle.equations.specs.Verdict.{Accepted, Refused, Ready, Left, Fits}
 use Rattle.verdict.proofs.Unique.{one_verdict_lem}
 use Rattle.places.specs.declared.place.Place.{Place}
-use Rattle.places.specs.Places.{Lawful, locations, IsPlace}
+use Rattle.places.specs.Places.{Lawful, source_of, live_of, locations, IsPlace}
 use Rattle.places.specs.Publish.{published_allocation}
 use Rattle.places.specs.Laws.{Loadable}
 use Rattle.places.proofs.Accept.{consistent_places_pass_lem}
@@ -80,16 +80,16 @@ module _ (places : Source → (ℕ → ℕ → Bool) → ℕ → List Place) (la
       refused e w.memory w.verdict
 
 -- what the loader shows can be placed
-pub loadable : (l : Loader) (o : LoadedSource) → Shows l o → Loadable (source_in o.heading o.table.now) (live_sets o.live.now)
+pub loadable : (l : Loader) (o : LoadedSource) → Shows l o → Loadable (source_of o) (live_of o)
 loadable l o is = record { sound = o.sound; some = o.some; few = o.few; within = o.within; live = is.live; entry = is.entry }
 
 -- the places ps of what it shows, and the allocation b published for them
-module _ (places : Source → (ℕ → ℕ → Bool) → ℕ → List Place) (lawful : Lawful places) (l : Loader) (o : LoadedSource) (is : Shows l o) (R : ℕ) (enough : Enough R) (ps : List Place) (placed : ps ≡ places (source_in o.heading o.table.now) (live_sets o.live.now) R) where
+module _ (places : Source → (ℕ → ℕ → Bool) → ℕ → List Place) (lawful : Lawful places) (l : Loader) (o : LoadedSource) (is : Shows l o) (R : ℕ) (enough : Enough R) (ps : List Place) (placed : ps ≡ places (source_of o) (live_of o) R) where
   abbrev s : Source
-  s = source_in o.heading o.table.now
+  s = source_of o
 
   abbrev L : ℕ → ℕ → Bool
-  L = live_sets o.live.now
+  L = live_of o
 
   -- each is a register or home
   pub placed_all : (v : ℕ) → IsPlace R v (locations R ps v)

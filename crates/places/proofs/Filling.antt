@@ -53,24 +53,29 @@ module _ (R : ℕ) (place : ℕ → ℕ) (nodes : List Node) (t u : Tables) (i :
   pub nodes_step : (w : Tables) → i < length nodes → Lined u w (published_line R place (node_at nodes i)) → Filled t w (map (published_line R place) (take (i + 1) nodes))
   nodes_step w h l = subst (λ (ls : List Line). Filled t w ls) (sym (map_more (published_line R place) nodes i (Const 0 0 0) h)) (filled_more t u w _ _ refl f l)
 
--- the whole: emptied tables, then the entry moves, then the lines of the nodes
+-- the whole: tables with the entry moves es alone, and then the lines of the nodes
 
-module _ (h : Heading) (es : List Move) (a b c : Tables) (heading : a.heading ≡ h) (rows : rows_in a ≡ []) (moves : moves_in a ≡ []) (added : Added a b es) (heading' : c.heading ≡ b.heading) (rows' : rows_in c ≡ rows_in b) (moves' : moves_in c ≡ moves_in b) (entry' : c.entry ≡ length (moves_in b)) where
-  heading_is : c.heading ≡ h
-  heading_is = heading' ∙ (added.heading ∙ heading)
+pub record Begun (h : Heading) (es : List Move) (t : Tables) : Type 0 where
+  pub heading : t.heading ≡ h
+  pub moves : moves_in t ≡ es
+  pub entry : t.entry ≡ length es
 
-  pub entry_is : moves_in c ≡ es
-  entry_is = moves' ∙ (added.moves ∙ ap (λ ms. ms ++ es) moves)
+-- emptied tables, to which the entry moves are added
+pub begun : (h : Heading) (es : List Move) (a b c : Tables) → a.heading ≡ h → moves_in a ≡ [] → Added a b es → c.heading ≡ b.heading → moves_in c ≡ moves_in b → c.entry ≡ length (moves_in b) → Begun h es c
+begun h es a b c heading moves added heading' moves' entry' =
+    let all = added.moves ∙ ap (λ ms. ms ++ es) moves in
+    record { heading = heading' ∙ (added.heading ∙ heading); moves = moves' ∙ all; entry = entry' ∙ ap length all }
 
-  pub whole_open : (y : Layout) (k : ℕ) → h.registers ≡ y.registers → h.slots ≡ length y.places.now → length es + k ≤ 1024 → Open c y k
-  whole_open y k registers slots room = record { registers = ap (λ x. x.registers) heading_is ∙ registers; slots = ap (λ x. x.slots) heading_is ∙ slots; room = omega (arith, ap length entry_is) }
+module _ (h : Heading) (es : List Move) (c : Tables) (b : Begun h es c) where
+  pub begun_open : (y : Layout) (k : ℕ) → h.registers ≡ y.registers → h.slots ≡ length y.places.now → length es + k ≤ 1024 → Open c y k
+  begun_open y k registers slots room = record { registers = ap (λ x. x.registers) b.heading ∙ registers; slots = ap (λ x. x.slots) b.heading ∙ slots; room = omega (arith, ap length b.moves) }
 
   module _ (d : Tables) (ls : List Line) (f : Filled c d ls) where
     entry_taken : take d.entry (moves_in d) ≡ es
-    entry_taken = ap (λ n. take n (moves_in d)) (f.entry ∙ (entry' ∙ ap length (sym moves'))) ∙ (f.front ∙ entry_is)
+    entry_taken = ap (λ n. take n (moves_in d)) (f.entry ∙ b.entry ∙ ap length (sym b.moves)) ∙ (f.front ∙ b.moves)
 
     pub whole : allocation_of d ≡ record { registers = h.registers; slots = h.slots; entry = es; lines = ls }
-    whole = let p = f.heading ∙ heading_is in let q = entry_taken in let r = f.lines in λ j. record { registers = (p j).registers; slots = (p j).slots; entry = q j; lines = r j }
+    whole = let p = f.heading ∙ b.heading in let q = entry_taken in let r = f.lines in λ j. record { registers = (p j).registers; slots = (p j).slots; entry = q j; lines = r j }
 
     pub whole-count : length (moves_in d) ≡ length es + lines_moves ls
-    whole-count = f.count ∙ ap (λ n. n + lines_moves ls) (ap length entry_is)
+    whole-count = f.count ∙ ap (λ n. n + lines_moves ls) (ap length b.moves)

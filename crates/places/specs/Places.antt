@@ -5,7 +5,9 @@ use Rattle.source.specs.Nodes.{result_of, node_at, AllSound}
 use Rattle.source.specs.Reading.{Source}
 use Rattle.source.specs.declared.node.Node.{Node}
 use Rattle.source.specs.declared.node.Node.TheVariants.{Const, Mov, Binary, Call, Branch, Return}
-use Rattle.loader.specs.Live.{out_of, is_result, Liveness}
+use Rattle.source.specs.Tables.{source_in}
+use Rattle.loader.specs.Live.{out_of, is_result, live_sets, Liveness}
+use Rattle.loader.specs.declared.held.LoadedSource.{LoadedSource}
 use Rattle.places.specs.declared.place.Place.{Place}
 use Rattle.places.specs.declared.place.Place.TheVariants.{Home, Register}
 
@@ -17,6 +19,13 @@ location R v (Register x) = x
 -- the locations of all temporaries, by the list of their places
 abbrev pub locations : ℕ → List Place → ℕ → ℕ
 locations R ps v = location R v (slice_index_or ps v Home)
+
+-- the source that is lent, and what is live into its nodes
+abbrev pub source_of : LoadedSource → Source
+source_of o = source_in o.heading o.table.now
+
+abbrev pub live_of : LoadedSource → ℕ → ℕ → Bool
+live_of o = live_sets o.live.now
 
 -- the origin of a `mov`
 abbrev pub copied : Node → Option ℕ

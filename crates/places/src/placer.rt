@@ -1,10 +1,8 @@
 // A placer gives each temporary a place, and its places are consistent.
 ghost use Rattle.std.specs.Prelude.{◌≡◌, ℕ, ◌≤◌, Bool, List, length};
 ghost use Rattle.source.specs.Reading.{Source};
-ghost use Rattle.source.specs.Tables.{source_in};
-ghost use Rattle.loader.specs.Live.{live_sets};
 ghost use Rattle.places.specs.declared.place.Place.{Place};
-ghost use Rattle.places.specs.Places.{homes, Lawful};
+ghost use Rattle.places.specs.Places.{source_of, live_of, homes, Lawful};
 ghost use Rattle.places.specs.Homes.{homes_owed};
 
 use crate::place::Place;
@@ -19,7 +17,7 @@ pub trait Placer {
         requires room { length out.old ≡ source.now.heading.temporaries }
         requires low { 3 ≤ registers }
         requires high { registers ≤ 16 }
-        ensures { out.new ≡ places self.now (source_in source.now.heading source.now.table.now) (live_sets source.now.live.now) registers };
+        ensures { out.new ≡ places self.now (source_of source.now) (live_of source.now) registers };
 
     ghost lawful: { (x : Self) → Lawful (places x) };
 }

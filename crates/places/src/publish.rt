@@ -2,11 +2,10 @@
 ghost use Rattle.std.specs.Prelude.{◌≡◌, ℕ, ◌+◌, ◌*◌, ◌<◌, ◌≤◌, [], map, length};
 ghost use Rattle.sets.specs.Masks.{bit};
 ghost use Rattle.source.specs.Nodes.{Sound, AllSound};
-ghost use Rattle.source.specs.Tables.{nodes_in, source_in};
-ghost use Rattle.loader.specs.Live.{live_sets};
+ghost use Rattle.source.specs.Tables.{nodes_in};
 ghost use Rattle.allocation.specs.Allocations.{rows_in, moves_in, allocation_of};
 ghost use Rattle.allocation.specs.Lines.{move_count};
-ghost use Rattle.places.specs.Places.{locations, IsPlace};
+ghost use Rattle.places.specs.Places.{source_of, live_of, locations, IsPlace};
 ghost use Rattle.places.specs.Publish.{ins_of, main_of, outs_of, published_line, entry_moves, published_allocation};
 ghost use Rattle.places.specs.Steps.{Added, Lined, Filled, Open, place_of};
 
@@ -172,8 +171,8 @@ pub fn publish(source: &LoadedSource, registers: u8, places: &[Place], tables: &
     requires short { length (nodes_in source.now.table.now) ≤ 256 }
     requires long { length places.now ≡ source.now.heading.temporaries }
     requires placed { (v : ℕ) → IsPlace registers v (locations registers places.now v) }
-    ensures lines { allocation_of tables.new ≡ published_allocation (source_in source.now.heading source.now.table.now) (live_sets source.now.live.now) registers places.now }
-    ensures count { length (moves_in tables.new) ≡ move_count (published_allocation (source_in source.now.heading source.now.table.now) (live_sets source.now.live.now) registers places.now) }
+    ensures lines { allocation_of tables.new ≡ published_allocation (source_of source.now) (live_of source.now) registers places.now }
+    ensures count { length (moves_in tables.new) ≡ move_count (published_allocation (source_of source.now) (live_of source.now) registers places.now) }
 {
     let layout = Layout { registers, places };
     tables.start(Heading {

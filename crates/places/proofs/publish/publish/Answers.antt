@@ -1,13 +1,11 @@
 use Rattle.std.proofs.Common.{◌+◌, ◌*◌, List, map, length, sym, refl, ap, subst, arith}
-use Rattle.source.specs.Tables.{nodes_in}
 use Rattle.source.specs.declared.node.Node.{Node}
-use Rattle.loader.specs.Live.{live_sets}
 use Rattle.allocation.specs.declared.heading.Heading.{Heading}
-use Rattle.places.specs.Places.{locations}
+use Rattle.places.specs.Places.{locations, live_of}
 use Rattle.places.specs.Publish.{entry_moves, published_line}
 use Rattle.places.specs.Steps.{Filled}
 use Rattle.places.proofs.Count.{entry_few}
-use Rattle.places.proofs.Filling.{whole_open, whole, whole-count}
+use Rattle.places.proofs.Filling.{begun, begun_open, whole, whole-count}
 use Rattle.places.proofs.publish.publish.Goals as goal
 
 pub publish_nodes-requires-clause-ready : goal.publish_nodes-requires-clause-ready
@@ -15,21 +13,21 @@ publish_nodes-requires-clause-ready c =
     let R = c.args.registers in
     let place = locations R c.args.places.now in
     let o = c.args.source.now in
-    let live = live_sets o.live.now 0 in
+    let P = o.heading.parameters in
+    let h : Heading = record { registers = R; slots = o.heading.temporaries } in
     let s = c.start.ensures in
     let e = c.end_entry.ensures in
-    let h : Heading = record { registers = R; slots = o.heading.temporaries } in
-    whole_open h (entry_moves R place live 0 o.heading.parameters) c.start.new.self c.publish_entry.new.tables c.end_entry.new.self s.heading s.rows s.moves c.publish_entry.ensures e.heading e.rows e.moves e.entry _ (3 * length c.nodes.result.now + 1) refl (sym c.requires.long) (omega (arith, entry_few R place live 0 o.heading.parameters, ap length c.nodes.ensures))
+    let b = begun h (entry_moves R place (live_of o 0) 0 P) c.start.new.self c.publish_entry.new.tables c.end_entry.new.self s.heading s.moves c.publish_entry.ensures e.heading e.moves e.entry in
+    begun_open h _ _ b _ (3 * length c.nodes.result.now + 1) refl (sym c.requires.long) (omega (arith, entry_few R place (live_of o 0) 0 P, ap length c.nodes.ensures))
 
 pub returns : goal.returns
 returns c =
     let R = c.args.registers in
     let place = locations R c.args.places.now in
     let o = c.args.source.now in
-    let es = entry_moves R place (live_sets o.live.now 0) 0 o.heading.parameters in
-    let ls = map (published_line R place) (nodes_in o.table.now) in
+    let h : Heading = record { registers = R; slots = o.heading.temporaries } in
     let s = c.start.ensures in
     let e = c.end_entry.ensures in
-    let h : Heading = record { registers = R; slots = o.heading.temporaries } in
+    let b = begun h (entry_moves R place (live_of o 0) 0 o.heading.parameters) c.start.new.self c.publish_entry.new.tables c.end_entry.new.self s.heading s.moves c.publish_entry.ensures e.heading e.moves e.entry in
     let filled = subst (λ (ns : List Node). Filled c.end_entry.new.self c.publish_nodes.new.tables (map (published_line R place) ns)) c.nodes.ensures c.publish_nodes.ensures in
-    record { lines = whole h es c.start.new.self c.publish_entry.new.tables c.end_entry.new.self s.heading s.rows s.moves c.publish_entry.ensures e.heading e.rows e.moves e.entry _ ls filled; count = whole-count h es c.start.new.self c.publish_entry.new.tables c.end_entry.new.self s.heading s.rows s.moves c.publish_entry.ensures e.heading e.rows e.moves e.entry _ ls filled }
+    record { lines = whole h _ _ b _ _ filled; count = whole-count h _ _ b _ _ filled }

@@ -1,7 +1,7 @@
 use Rattle.std.proofs.Common.{length, arith}
 use Rattle.sets.specs.Masks.{bit}
 use Rattle.colouring.specs.Colouring.{degree, rows, under}
-use Rattle.colouring.specs.Searches.{busiest_below}
+use Rattle.colouring.proofs.Searching.{busiest_below}
 use Rattle.colouring.proofs.Steps.{lowest_below}
 use Rattle.colouring.proofs.graph.Graph.next.Goals as goal
 
@@ -15,4 +15,4 @@ pub returns-in_default-clause-within : goal.returns-in_default-clause-within
 returns-in_default-clause-within c =
     let g = c.args.self.now in
     let n = length g.rows.now in
-    lowest_below n (under n c.args.k (rows g.rows.now) (bit g.left)) c.lowest_under.result c.lowest_under.ensures
+    lowest_below n (under n g.registers (rows g.rows.now) (bit g.left)) c.lowest_under.result c.lowest_under.ensures

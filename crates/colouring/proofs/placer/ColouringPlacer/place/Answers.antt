@@ -2,8 +2,7 @@ use Rattle.std.proofs.Common.{◌≡◌, ℕ, ◌-◌, ◌&&◌, ltb, List, leng
 use mathlib.Core.Bool.{and-true}
 use Rattle.std.proofs.lemmas.Bool.{and_from, lt-ltb}
 use Rattle.sets.specs.Masks.{bit}
-use Rattle.source.specs.Tables.{source_in}
-use Rattle.loader.specs.Live.{live_sets}
+use Rattle.places.specs.Places.{source_of, live_of}
 use Rattle.colouring.specs.Colouring.{coloured, conflict, used, rows}
 use Rattle.colouring.proofs.Steps.{coloured_same}
 use Rattle.colouring.proofs.placer.ColouringPlacer.place.Goals as goal
@@ -14,8 +13,8 @@ returns c =
     let n = o.heading.temporaries in
     let K = c.args.registers - 2 in
     let table = c.find_conflicts-conflicts.result.items in
-    let s = source_in o.heading o.table.now in
-    let L = live_sets o.live.now in
+    let s = source_of o in
+    let L = live_of o in
     let left = bit c.intersection.result in
     let turns : length c.args.out.now ≡ n = omega arith in
     c.colour.ensures ∙ ap (λ (ws : List ℕ). coloured (length ws) K (rows ws) (length c.args.out.now) left) c.as_slice.ensures.value
