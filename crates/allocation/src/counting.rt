@@ -11,6 +11,7 @@ impl Tables {
         ensures { result ≡ move_count (allocation_of self.now) }
     {
         let mut count = u32::from(self.entry);
+        // a loop: a closure for `map` and `sum` does not know that a row's moves begin before they end
         for row in &self.rows {
             count += u32::from(row.end - row.ins);
         }

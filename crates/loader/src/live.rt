@@ -44,7 +44,8 @@ fn live_in(node: Node, live: &[u64]) -> u64
     union(operand_set(node), kept)
 }
 
-// One pass over the nodes, from the last to the first: whether a set has grown.
+// One pass over the nodes, from the last to the first: whether a set has grown. The masks are a part of the tables that is
+// lent for writing; in one struct with the nodes they would have to keep its invariant at each write.
 fn pass(nodes: &[Node], live: &mut [u64]) -> bool
     requires sound { AllSound 64 nodes.now }
     requires len { length live.old ≡ length nodes.now }

@@ -25,7 +25,7 @@ use std::alloc::{AllocError, Global};
 use text::fields::Fault;
 use text::lines::{Line, Lines};
 
-// A fault of the line with this number.
+// A fault of the line with this number. Each kind of text has two refusals of its own, so each has this match.
 fn refuse(line: usize, fault: Fault) -> Refusal
     ensures { result ≡ refused line fault }
 {

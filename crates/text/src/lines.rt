@@ -24,6 +24,7 @@ pub struct Lines<'a> {
 }
 
 // What is left of a line whose last field is not read, and where it begins.
+// It is no `split`: a loop over the library's iterator in a function with a const parameter gets no proof.
 #[derive(Clone, Copy)]
 pub(crate) struct Fields<'a> {
     pub(crate) rest: Option<&'a [u8]>,

@@ -53,6 +53,7 @@ fn find_foreign(set: &[u64; 64], arrival: u8, parameters: u8) -> Option<Equation
     ensures { Finds (held set.now) (foreign arrival parameters) result }
 {
     let mut words = [empty(); 64];
+    // parameter i is the number i: there is no list of parameters to go over
     for i in 0..parameters {
         words[(arrival + i) as usize] = single(i);
     }
