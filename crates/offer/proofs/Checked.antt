@@ -1,5 +1,5 @@
 -- What the check says of a text that was read is what the offer answers.
-use Rattle.std.proofs.Common.{◌≡◌, ℕ, List, length, IfOk, Some, Ok, Err, Option, Result, ap, ◌∙◌, subst, inr, MatchResult}
+use Rattle.std.proofs.Common.{◌≡◌, ℕ, List, length, IfOk, Some, Ok, Err, Option, Result, ap, ◌∙◌, subst, inr}
 use Rattle.std.specs.Option.{option_map}
 use Rattle.refusal.specs.declared.Refusal.{Refusal}
 use Rattle.source.specs.declared.heading.Heading.{Heading}
@@ -10,13 +10,12 @@ use Rattle.allocation.specs.declared.tables.Tables.{Tables}
 use Rattle.allocation.specs.Allocations.{allocation_of}
 use Rattle.allocation.specs.Lines.{move_count}
 use Rattle.reading.specs.Reading.{read_allocation}
-use Rattle.equations.specs.Equations.{memory_sets}
-use Rattle.equations.specs.Verdict.{Fits, Accepted, Refused, Left}
+use Rattle.equations.specs.Verdict.{Fits, Judged, Left}
 use Rattle.offer.specs.Offers.{Reads, Offered}
 
 -- what is checked, with the words of work memory before and after
 pub record Verdict (s : Source) (t : Tables) (words words' : List ℕ) (r : Result ℕ Refusal) : Type 0 where
-  pub verdict : MatchResult r (λ _. Accepted s (allocation_of t) (length words) (memory_sets words')) (Refused s (allocation_of t) (length words) (memory_sets words'))
+  pub verdict : Judged s (allocation_of t) words words' r
   pub count : IfOk r (λ n. n ≡ move_count (allocation_of t))
   pub memory : Left s (allocation_of t) words words'
   pub fits : Fits s (allocation_of t)

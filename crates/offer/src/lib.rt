@@ -21,11 +21,9 @@ pub fn offer(
     ensures answer { Offered (loaded_source loader.now) text.now memory.old (allocation_of spare.new.tables) memory.new result }
     ensures table { IfOk result (λ count. count ≡ length (moves_in spare.new.tables)) }
 {
-    let Some(heading) = loader.heading() else {
+    let Some(source) = loader.source() else {
         return Err(Refusal::NoSource);
     };
-    match spare.read(text, heading.parameters, heading.nodes) {
-        Ok(_) => check(memory, heading, loader.table(), spare.tables()),
-        Err(refusal) => Err(refusal),
-    }
+    spare.read(text, source.heading.parameters, source.heading.nodes)?;
+    check(memory, source.heading, source.table, spare.tables())
 }

@@ -121,11 +121,11 @@ fn name(question: u8, place: usize, temporary: u8, location: u8) -> Numbers
     }
 }
 
-impl Refusal {
-    pub fn numbers(self) -> Numbers
-        ensures { result ≡ numbers self }
-    {
-        match self {
+impl From<Refusal> for Numbers {
+    ghost from_gives = { λ r n. n ≡ numbers r };
+
+    fn from(refusal: Refusal) -> Numbers {
+        match refusal {
             Refusal::SourceSize => name(11, 0, 0, 0),
             Refusal::SourceHeading => name(12, 1, 0, 0),
             Refusal::SourceLength { line } => name(13, line, 0, 0),
@@ -177,11 +177,12 @@ impl fmt::Display for Refusal {
     ghost output = { λ r. Some (refusal_line r) };
 
     fn fmt<W: fmt::Write>(&self, f: &mut fmt::Formatter<W>) -> fmt::Result {
-        let n = self.numbers();
-        let question = n.question;
-        let place = n.place;
-        let temporary = n.temporary;
-        let location = n.location;
+        let Numbers {
+            question,
+            place,
+            temporary,
+            location,
+        } = Numbers::from(*self);
         write!(f, "refused\t{question}\t{place}\t{temporary}\t{location}")
     }
 }
