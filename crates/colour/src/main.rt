@@ -2,14 +2,14 @@
 
 // Reads a source text on standard input, places its temporaries by colouring, and prints the allocation, or the refusal.
 use allocation::tables::Tables;
-use anyhow::anyhow;
+use anyhow::bail;
 use colouring::placer::Colouring;
 use input::read_text;
 use loader::holder::Loader;
 use placement::place;
 use refusal::Refusal;
-use std::env;
 use std::io::Write;
+use std::{env, io};
 use text::number::read_number;
 use writer::write;
 
@@ -33,8 +33,20 @@ fn place_source(
     write(tables, text, 0)
 }
 
-// Whether the source was placed.
-fn colour(rt: &HostRuntime, registers: u64) -> anyhow::Result<bool> {
+// The number of registers, which is the only argument.
+fn registers_of(rt: &HostRuntime) -> io::Result<Option<u64>> {
+    let mut args = env::args(rt)?.skip(1);
+    let (Some(registers), None) = (args.next(), args.next()) else {
+        return Ok(None);
+    };
+    Ok(read_number(registers.as_bytes()))
+}
+
+fn main(rt: HostRuntime) -> anyhow::Result<()> {
+    let Some(registers) = registers_of(&rt)? else {
+        eprintln!(rt; "usage: colour REGISTERS < SOURCE")?;
+        bail!("refused");
+    };
     let heap = rt.alloc();
     let source = read_text(heap, rt.stdin())?;
     let mut loader = Loader::new(heap)?;
@@ -44,40 +56,20 @@ fn colour(rt: &HostRuntime, registers: u64) -> anyhow::Result<bool> {
     match place_source(
         &mut loader,
         &mut tables,
-        source.as_slice(),
+        &source,
         registers,
-        memory.as_mut_slice(),
-        text.as_mut_slice(),
+        &mut memory,
+        &mut text,
     ) {
         Ok(length) => {
-            if let Some(written) = text.as_slice().get(..length) {
+            if let Some(written) = text.get(..length) {
                 rt.stdout().write_all(written)?;
             }
-            Ok(true)
         }
         Err(refusal) => {
             println!(rt; "{refusal}")?;
-            Ok(false)
+            bail!("refused");
         }
     }
-}
-
-fn run(rt: &HostRuntime) -> anyhow::Result<bool> {
-    let mut args = env::args(rt)?.skip(1);
-    let (Some(registers), None) = (args.next(), args.next()) else {
-        eprintln!(rt; "usage: colour REGISTERS < SOURCE")?;
-        return Ok(false);
-    };
-    let Some(registers) = read_number(registers.as_bytes()) else {
-        eprintln!(rt; "usage: colour REGISTERS < SOURCE")?;
-        return Ok(false);
-    };
-    colour(rt, registers)
-}
-
-fn main(rt: HostRuntime) -> anyhow::Result<()> {
-    if run(&rt)? {
-        return Ok(());
-    }
-    Err(anyhow!("refused"))
+    Ok(())
 }

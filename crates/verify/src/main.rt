@@ -1,11 +1,12 @@
 #![tactic(auto)]
 
 // Reads a source and an allocation from two files, and prints whether the allocation is accepted, or the refusal.
-use anyhow::anyhow;
+use anyhow::bail;
 use input::read_text;
 use loader::holder::Loader;
 use offer::offer;
 use reading::reader::Reader;
+use refusal::Refusal;
 use std::fs::File;
 use std::{env, io};
 
@@ -16,57 +17,47 @@ fn read_file(rt: &HostRuntime, path: &str) -> io::Result<Vec<u8>> {
     read_text(rt.alloc(), File::open(rt, path)?)
 }
 
-// The text of a file, or none, and then why is said.
-fn text_of(rt: &HostRuntime, path: &str) -> io::Result<Option<Vec<u8>>> {
+// The text of a file; if there is none, why is said.
+fn text_of(rt: &HostRuntime, path: &str) -> anyhow::Result<Vec<u8>> {
     match read_file(rt, path) {
-        Ok(text) => Ok(Some(text)),
+        Ok(text) => Ok(text),
         Err(error) => {
             eprintln!(rt; "verify: {path}: {error}")?;
-            Ok(None)
+            bail!("refused")
         }
     }
 }
 
-// Whether the allocation was accepted.
-fn verify(rt: &HostRuntime, source: &[u8], text: &[u8]) -> anyhow::Result<bool> {
-    let heap = rt.alloc();
-    let mut loader = Loader::new(heap)?;
-    if let Err(refusal) = loader.load(source) {
-        println!(rt; "{refusal}")?;
-        return Ok(false);
-    }
-    let mut reader = Reader::new(heap)?;
-    let mut memory = vec![in heap; 0u64; WORDS]?;
-    match offer(&loader, &mut reader, text, memory.as_mut_slice()) {
-        Ok(moves) => {
-            println!(rt; "accepted\t{moves}")?;
-            Ok(true)
-        }
-        Err(refusal) => {
-            println!(rt; "{refusal}")?;
-            Ok(false)
-        }
-    }
-}
-
-fn run(rt: &HostRuntime) -> anyhow::Result<bool> {
-    let mut args = env::args(rt)?.skip(1);
-    let (Some(source), Some(allocation), None) = (args.next(), args.next(), args.next()) else {
-        eprintln!(rt; "usage: verify SOURCE ALLOCATION")?;
-        return Ok(false);
-    };
-    let Some(source) = text_of(rt, source.as_str())? else {
-        return Ok(false);
-    };
-    let Some(allocation) = text_of(rt, allocation.as_str())? else {
-        return Ok(false);
-    };
-    verify(rt, source.as_slice(), allocation.as_slice())
+// Loads the source and offers the allocation: how many moves it has, or the refusal.
+fn check(
+    loader: &mut Loader,
+    reader: &mut Reader,
+    source: &[u8],
+    text: &[u8],
+    memory: &mut [u64],
+) -> Result<u16, Refusal> {
+    loader.load(source)?;
+    offer(loader, reader, text, memory)
 }
 
 fn main(rt: HostRuntime) -> anyhow::Result<()> {
-    if run(&rt)? {
-        return Ok(());
+    let mut args = env::args(&rt)?.skip(1);
+    let (Some(source), Some(allocation), None) = (args.next(), args.next(), args.next()) else {
+        eprintln!(rt; "usage: verify SOURCE ALLOCATION")?;
+        bail!("refused");
+    };
+    let source = text_of(&rt, source.as_str())?;
+    let allocation = text_of(&rt, allocation.as_str())?;
+    let heap = rt.alloc();
+    let mut loader = Loader::new(heap)?;
+    let mut reader = Reader::new(heap)?;
+    let mut memory = vec![in heap; 0u64; WORDS]?;
+    match check(&mut loader, &mut reader, &source, &allocation, &mut memory) {
+        Ok(moves) => println!(rt; "accepted\t{moves}")?,
+        Err(refusal) => {
+            println!(rt; "{refusal}")?;
+            bail!("refused");
+        }
     }
-    Err(anyhow!("refused"))
+    Ok(())
 }
