@@ -1,4 +1,5 @@
 // The sets before all nodes: the least that solve their equations.
+// What is asked of a node, a main line and moves stands with each function: a type that held it would be made anew at each call.
 ghost use Rattle.std.specs.Prelude.{◌≡◌, ℕ, ◌+◌, ◌*◌, ◌<◌, ◌≤◌, ◌/◌, true, false, length, IfSome, slice_index};
 ghost use Rattle.sets.specs.Masks.{Below};
 ghost use Rattle.sets.specs.Least.{Growing, Solution, Least, room};

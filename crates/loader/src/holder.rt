@@ -7,7 +7,8 @@ ghost use Rattle.loader.specs.Live.{Loaded};
 use source::heading::Heading;
 use source::table::Table;
 
-// The nodes of a source, and a mask for each node: the temporaries live into it.
+// The nodes of a source, and a mask for each node: the temporaries live into it. The masks are a row of their own, since
+// they are lent as one slice.
 #[derive(Drop)]
 pub struct Tables {
     pub(crate) nodes: Table,

@@ -1,4 +1,5 @@
 // The lines published for a source whose temporaries have places.
+// That a node's numbers are in range is asked by each function: a type that held it would be made anew at each node.
 ghost use Rattle.std.specs.Prelude.{◌≡◌, ℕ, ◌+◌, ◌*◌, ◌<◌, ◌≤◌, [], map, length};
 ghost use Rattle.sets.specs.Masks.{bit};
 ghost use Rattle.source.specs.Nodes.{Sound, AllSound};

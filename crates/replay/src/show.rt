@@ -1,4 +1,5 @@
-// What is printed of a call that was made: its answer, and what it left.
+// What is printed of a call that was made: its answer, and what it left. It is several lines, and bytes of a buffer that
+// need be no text, so it is printed as it comes and is no Display.
 use crate::bring::{ScriptCall, UNWRITTEN};
 use crate::kind::Hosted;
 use choices::frame::AnyFrame;
