@@ -86,7 +86,7 @@ pub(crate) fn find_conflicts(source: &LoadedSource) -> ArrayVec<u64, 48>
     let demands = find_demands(source);
     let arriving = find_arriving(source.live[0], source.heading.parameters);
     let mut table = ArrayVec::new();
-    // by number: u is a temporary, whose row is made of the rows of all
+    // by number: u names a row of the demands and a bit of each
     for u in 0..source.heading.temporaries {
         table.push(row(&demands, arriving, u));
     }

@@ -29,36 +29,38 @@ impl<'a> Graph<'a> {
     }
 
     // Whether v is left, and of a degree under the number of registers.
-    fn is_under(&self, v: u8) -> bool
+    fn is_under(&self, v: usize) -> bool
         requires { v < order self.now }
         ensures { result ≡ under (order self.now) self.now.registers (edges self.now) (bit self.now.left) v }
     {
-        has(self.left, v) && self.degree(self.rows[v as usize]) < self.registers as u32
+        has(self.left, v as u8) && self.degree(self.rows[v]) < self.registers as u32
     }
 
     // The lowest left of a degree under the number of registers.
-    fn lowest_under(&self) -> Option<u8>
+    fn lowest_under(&self) -> Option<usize>
         ensures { result ≡ lowest_of (order self.now) (under (order self.now) self.now.registers (edges self.now) (bit self.now.left)) }
     {
-        (0..self.rows.len() as u8).find(|v| self.is_under(*v))
+        (0..self.rows.len()).find(|v| self.is_under(*v))
     }
 
     // The lowest left of greatest degree.
-    fn busiest(&self) -> Option<u8>
+    fn busiest(&self) -> Option<usize>
         ensures { result ≡ busiest_of (degree (order self.now) (edges self.now) (bit self.now.left)) (order self.now) (bit self.now.left) }
     {
-        let mut best: Option<(u8, u32)> = None;
+        let mut best: Option<(usize, u32)> = None;
         for (v, row) in self.rows.iter().enumerate() {
-            let degree = self.degree(*row);
-            if has(self.left, v as u8) && best.is_none_or(|(_, most)| most < degree) {
-                best = Some((v as u8, degree));
+            if has(self.left, v as u8) {
+                let degree = self.degree(*row);
+                if best.is_none_or(|(_, most)| most < degree) {
+                    best = Some((v, degree));
+                }
             }
         }
         best.map(|(v, _)| v)
     }
 
     // The next to remove.
-    fn next(&self) -> Option<u8>
+    fn next(&self) -> Option<usize>
         ensures value { result ≡ next (order self.now) self.now.registers (edges self.now) (bit self.now.left) }
         ensures within { IfSome result (λ v. v < order self.now) }
     {
@@ -70,7 +72,7 @@ impl<'a> Graph<'a> {
     }
 
     // What is left once v is removed.
-    fn remove(&self, v: u8) -> Graph<'a>
+    fn remove(&self, v: usize) -> Graph<'a>
         requires { v < order self.now }
         ensures rows { result.rows.now ≡ self.now.rows.now }
         ensures registers { result.registers ≡ self.now.registers }
@@ -78,7 +80,7 @@ impl<'a> Graph<'a> {
     {
         Graph {
             rows: self.rows,
-            left: without(self.left, single(v)),
+            left: without(self.left, single(v as u8)),
             registers: self.registers,
         }
     }
@@ -96,7 +98,7 @@ impl<'a> Graph<'a> {
             None => places.fill(Place::Home),
             Some(v) => {
                 self.remove(v).colour(turns - 1, places);
-                places[v as usize] = choose_place(places, self.rows[v as usize], self.registers);
+                places[v] = choose_place(places, self.rows[v], self.registers);
             }
         }
     }

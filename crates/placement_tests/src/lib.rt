@@ -42,10 +42,7 @@ mod tests {
         expected: Result<u32, u8>,
     ) -> Result<(), Fail> {
         let answer = place(loader, tables, placer, registers, memory);
-        assert_eq!(rt;
-            answer.map_err(Numbers::from),
-            expected.map_err(refused)
-        );
+        assert_eq!(rt; answer.map_err(Numbers::from), expected.map_err(refused));
         Ok(())
     }
 
