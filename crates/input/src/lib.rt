@@ -4,6 +4,7 @@
 ghost use Rattle.std.specs.Prelude.{◌≡◌, ◌≤◌, take, vec_len, IfOk, IfSome};
 
 use std::alloc::Global;
+use std::fs::{File, Files};
 use std::io;
 use std::io::Read;
 
@@ -28,6 +29,13 @@ pub fn read_text<R: Read + Drop>(heap: Global, from: R) -> io::Result<Vec<u8>>
     ensures few { IfOk result (λ v. vec_len v ≤ 32769) }
 {
     read_first(heap, from, TEXT_BYTES)
+}
+
+// The text of a file.
+pub fn read_file<F: Files>(heap: Global, files: &F, path: &str) -> io::Result<Vec<u8>>
+    ensures { IfOk result (λ v. vec_len v ≤ 32769) }
+{
+    read_text(heap, File::open(files, path)?)
 }
 
 #[cfg(test)]

@@ -4,7 +4,7 @@ use crate::kind::Hosted;
 use crate::script::{FrameSize, Line, RunLine, read_line};
 use choices::frame::AnyFrame;
 use choices::placer::AnyPlacer;
-use input::read_text;
+use input::read_file;
 use machine::outcome::Entry;
 use service::call::{Call, Load, Offer, Place, Run, Write};
 use std::alloc::{AllocError, Global};
@@ -25,10 +25,6 @@ const CELL: u32 = 7;
 pub const UNWRITTEN: u64 = u64::MAX;
 
 pub type ScriptCall<V, H> = Call<V, H, AnyFrame<V>, AnyPlacer>;
-
-fn read_file(rt: &HostRuntime, path: &str) -> io::Result<Vec<u8>> {
-    read_text(rt.alloc(), File::open(rt, path)?)
-}
 
 fn bring_cells<V: Kind>(heap: Global, cells: usize) -> Result<Vec<V>, AllocError> {
     vec![in heap; V::constant(CELL); cells]
@@ -98,11 +94,11 @@ fn bring_call<V: Kind + FromStr<Err = NotAValue>, H: Hosted<V>>(
     let heap = rt.alloc();
     Ok(match line {
         Line::Load { path } => Call::Load(Load {
-            text: read_file(rt, path)?,
+            text: read_file(rt.alloc(), rt, path)?,
             answer: None,
         }),
         Line::Offer { path, words } => Call::Offer(Offer {
-            text: read_file(rt, path)?,
+            text: read_file(rt.alloc(), rt, path)?,
             memory: vec![in heap; UNWRITTEN; words]?,
             answer: None,
         }),

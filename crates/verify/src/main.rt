@@ -2,25 +2,21 @@
 
 // Reads a source and an allocation from two files, and prints whether the allocation is accepted, or the refusal.
 use anyhow::bail;
-use input::read_text;
+use input::read_file;
 use loader::holder::Loader;
 use offer::offer;
 use reading::reader::Reader;
 use refusal::Refusal;
-use std::fs::File;
-use std::{env, io};
+use std::env;
 
 // Words of work memory: enough for 256 nodes.
 const WORDS: usize = 16_384;
 
-fn read_file(rt: &HostRuntime, path: &str) -> io::Result<Vec<u8>> {
-    read_text(rt.alloc(), File::open(rt, path)?)
-}
-
 // The text of a file; if there is none, why is said.
 fn text_of(rt: &HostRuntime, path: &str) -> anyhow::Result<Vec<u8>> {
-    match read_file(rt, path) {
+    match read_file(rt.alloc(), rt, path) {
         Ok(text) => Ok(text),
+        // said here, since the program's own error is one word
         Err(error) => {
             eprintln!(rt; "verify: {path}: {error}")?;
             bail!("refused")
