@@ -39,7 +39,7 @@ fn find_demands(source: &LoadedSource) -> [u64; 48]
     ensures { (u v : ℕ) → rows result u v ≡ demanded (source_of source.now) (live_of source.now) u v }
 {
     let mut table = [0; 48];
-    for node in source.table.nodes() {
+    for node in source.nodes {
         add_demands(&mut table, *node, source.live);
     }
     table
@@ -98,7 +98,7 @@ pub(crate) fn find_used(source: &LoadedSource) -> u64
     ensures { (v : ℕ) → bit result v ≡ used (source_of source.now) (live_of source.now) v }
 {
     let mut set = empty();
-    for (node, live) in source.table.nodes().iter().zip(source.live) {
+    for (node, live) in source.nodes.iter().zip(source.live) {
         set = union(set, union(*live, mask_of(node.assigned())));
     }
     set

@@ -57,7 +57,7 @@ impl Engine {
         let count = offer(&self.loader, &mut self.reader, text, memory)?;
         self.standing = None;
         self.reader.exchange(&mut self.tables);
-        self.source.copy_from(loaded.table);
+        self.source.copy_from(self.loader.table());
         self.standing = Some(Standing {
             source: loaded.heading,
             placed: false,
@@ -80,7 +80,7 @@ impl Engine {
         let count = place(&self.loader, &mut self.draft, placer, registers, memory)?;
         self.standing = None;
         swap(&mut self.draft, &mut self.tables);
-        self.source.copy_from(loaded.table);
+        self.source.copy_from(self.loader.table());
         self.standing = Some(Standing {
             source: loaded.heading,
             placed: true,

@@ -21,11 +21,11 @@ live_words l = vec_items l.tables.live
 -- s shows what the loader l has loaded
 pub record Shows (l : Loader) (s : LoadedSource) : Type 0 where
   pub heading : l.loaded ≡ Some s.heading
-  pub table : s.table.now ≡ l.tables.nodes
+  pub nodes : s.nodes.now ≡ nodes_in l.tables.nodes
   pub words : s.live.now ≡ live_words l
-  pub live : Liveness (nodes_in s.table.now) (live_sets s.live.now)
+  pub live : Liveness s.nodes.now (live_sets s.live.now)
   pub entry : (v : ℕ) → live_sets s.live.now 0 v ≡ true → v < s.heading.parameters
-  pub long : length (nodes_in s.table.now) ≡ s.heading.nodes
+  pub long : length s.nodes.now ≡ s.heading.nodes
   pub few_nodes : s.heading.nodes ≤ 256
   pub few_parameters : s.heading.parameters ≤ 8
 

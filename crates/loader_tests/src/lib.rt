@@ -148,7 +148,7 @@ mod tests {
         let source = loader.source().ok_or("nothing is held")?;
         assert_eq!(rt; source.heading.parameters, 2);
         assert_eq!(rt; source.heading.nodes, 5);
-        assert_eq!(rt; source.table.nodes().len(), 5);
+        assert_eq!(rt; source.nodes.len(), 5);
         assert!(rt; source.live == [0b11, 0b111, 0b1011, 0b1010, 0b1000].as_slice());
         Ok(())
     }

@@ -25,5 +25,5 @@ pub fn offer(
         return Err(Refusal::NoSource);
     };
     spare.read(text, source.heading.parameters, source.heading.nodes)?;
-    check(memory, source.heading, source.table, spare.tables())
+    check(memory, source.heading, loader.table(), spare.tables())
 }

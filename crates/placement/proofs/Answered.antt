@@ -4,9 +4,10 @@ use Rattle.std.specs.Option.{option_map}
 use Rattle.std.proofs.lemmas.Bool.{cases_lt}
 use Rattle.refusal.specs.declared.Refusal.{Refusal}
 use Rattle.refusal.specs.declared.Refusal.TheVariants.{ShortMemory}
+use Rattle.source.specs.declared.node.Node.{Node}
 use Rattle.source.specs.declared.table.Table.{Table}
 use Rattle.source.specs.Reading.{Source}
-use Rattle.source.specs.Tables.{source_in}
+use Rattle.source.specs.Tables.{nodes_in, source_in}
 use Rattle.loader.specs.Live.{live_sets}
 use Rattle.loader.specs.Load.{loaded_source, live_words, Shows}
 use Rattle.loader.specs.declared.held.LoadedSource.{LoadedSource}
@@ -83,6 +84,10 @@ module _ (places : Source → (ℕ → ℕ → Bool) → ℕ → List Place) (la
 pub loadable : (l : Loader) (o : LoadedSource) → Shows l o → Loadable (source_of o) (live_of o)
 loadable l o is = record { sound = o.sound; some = o.some; few = o.few; within = o.within; live = is.live; entry = is.entry }
 
+-- the source of its table is the one that it shows
+pub table_source : (l : Loader) (o : LoadedSource) (t : Table) → Shows l o → t ≡ l.tables.nodes → source_in o.heading t ≡ source_of o
+table_source l o t is e = ap (λ (ns : List Node). record { parameters = o.heading.parameters; temporaries = o.heading.temporaries; nodes = ns }) (ap nodes_in e ∙ sym is.nodes)
+
 -- the places ps of what it shows, and the allocation b published for them
 module _ (places : Source → (ℕ → ℕ → Bool) → ℕ → List Place) (lawful : Lawful places) (l : Loader) (o : LoadedSource) (is : Shows l o) (R : ℕ) (enough : Enough R) (ps : List Place) (placed : ps ≡ places (source_of o) (live_of o) R) where
   abbrev s : Source
@@ -100,7 +105,7 @@ module _ (places : Source → (ℕ → ℕ → Bool) → ℕ → List Place) (la
   -- the answer, for the source that is loaded
   pub answered_loaded : (b : Allocation) → b ≡ published_allocation s L R ps → (words words' : List ℕ) (r : Result ℕ Refusal) → Verdict s b words words' r → Placed places (loaded_source l) (live_words l) R words b words' r
   answered_loaded b made words words' r v =
-      let same : option_map (λ h. source_in h l.tables.nodes) l.loaded ≡ Some s = ap (option_map (λ h. source_in h l.tables.nodes)) is.heading ∙ ap (λ (t : Table). Some (source_in o.heading t)) (sym is.table) in
+      let same : option_map (λ h. source_in h l.tables.nodes) l.loaded ≡ Some s = ap (option_map (λ h. source_in h l.tables.nodes)) is.heading ∙ ap (λ (ns : List Node). Some (record { parameters = o.heading.parameters; temporaries = o.heading.temporaries; nodes = ns })) (sym is.nodes) in
       subst (λ (x : Option Source). Placed places x (live_words l) R words b words' r) (sym same)
       (subst (λ (ws : List ℕ). Placed places (Some s) ws R words b words' r) is.words
       (answered places lawful s o.live.now R (loadable l o is) enough o.words is.few_parameters words words' b r (made ∙ ap (published_allocation s L R) placed) v))

@@ -41,7 +41,7 @@ pub fn place<P: Placer>(
     let places = &mut row[..source.heading.temporaries as usize];
     placer.place(&source, registers, places);
     publish(&source, registers, places, spare);
-    check_counted(memory, source.heading, source.table, spare)
+    check_counted(memory, source.heading, loader.table(), spare)
 }
 
 // A placement is accepted exactly when all of its questions are yes: the theorem that this function's contract names.

@@ -22,7 +22,7 @@ locations R ps v = location R v (slice_index_or ps v Home)
 
 -- the source that is lent, and what is live into its nodes
 abbrev pub source_of : LoadedSource → Source
-source_of o = source_in o.heading o.table.now
+source_of o = record { parameters = o.heading.parameters; temporaries = o.heading.temporaries; nodes = o.nodes.now }
 
 abbrev pub live_of : LoadedSource → ℕ → ℕ → Bool
 live_of o = live_sets o.live.now

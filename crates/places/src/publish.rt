@@ -3,7 +3,6 @@
 ghost use Rattle.std.specs.Prelude.{◌≡◌, ℕ, ◌+◌, ◌*◌, ◌<◌, ◌≤◌, [], map, length};
 ghost use Rattle.sets.specs.Masks.{bit};
 ghost use Rattle.source.specs.Nodes.{Sound, AllSound};
-ghost use Rattle.source.specs.Tables.{nodes_in};
 ghost use Rattle.allocation.specs.Allocations.{rows_in, moves_in, allocation_of};
 ghost use Rattle.allocation.specs.Lines.{move_count};
 ghost use Rattle.places.specs.Places.{source_of, live_of, locations, IsPlace};
@@ -169,7 +168,7 @@ pub fn publish(source: &LoadedSource, registers: u8, places: &[Place], tables: &
     requires parameters { source.now.heading.parameters ≤ 8 }
     requires low { 3 ≤ registers }
     requires high { registers ≤ 16 }
-    requires short { length (nodes_in source.now.table.now) ≤ 256 }
+    requires short { length source.now.nodes.now ≤ 256 }
     requires long { length places.now ≡ source.now.heading.temporaries }
     requires placed { (v : ℕ) → IsPlace registers v (locations registers places.now v) }
     ensures lines { allocation_of tables.new ≡ published_allocation (source_of source.now) (live_of source.now) registers places.now }
@@ -182,5 +181,5 @@ pub fn publish(source: &LoadedSource, registers: u8, places: &[Place], tables: &
     });
     layout.publish_entry(tables, source.live[0], source.heading.parameters);
     tables.end_entry();
-    layout.publish_nodes(tables, source.table.nodes());
+    layout.publish_nodes(tables, source.nodes);
 }

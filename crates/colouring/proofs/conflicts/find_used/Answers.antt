@@ -12,7 +12,7 @@ use Rattle.colouring.proofs.conflicts.find_used.Goals as goal
 
 pub loop-node-preserved : goal.loop-node-preserved
 loop-node-preserved c v =
-    let nodes = nodes_in c.args.source.now.table.now in
+    let nodes = c.args.source.now.nodes.now in
     let words = c.args.source.now.live.now in
     let n = length c.loop-node.yielded in
     let p : ℕ → _ = λ k. live_sets words k v || is_result (node_at nodes k) v in

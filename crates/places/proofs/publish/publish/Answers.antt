@@ -18,7 +18,7 @@ publish_nodes-requires-clause-ready c =
     let s = c.start.ensures in
     let e = c.end_entry.ensures in
     let b = begun h (entry_moves R place (live_of o 0) 0 P) c.start.new.self c.publish_entry.new.tables c.end_entry.new.self s.heading s.moves c.publish_entry.ensures e.heading e.moves e.entry in
-    begun_open h _ _ b _ (3 * length c.nodes.result.now + 1) refl (sym c.requires.long) (omega (arith, entry_few R place (live_of o 0) 0 P, ap length c.nodes.ensures))
+    begun_open h _ _ b _ (3 * length o.nodes.now + 1) refl (sym c.requires.long) (omega (arith, entry_few R place (live_of o 0) 0 P))
 
 pub returns : goal.returns
 returns c =
@@ -29,5 +29,4 @@ returns c =
     let s = c.start.ensures in
     let e = c.end_entry.ensures in
     let b = begun h (entry_moves R place (live_of o 0) 0 o.heading.parameters) c.start.new.self c.publish_entry.new.tables c.end_entry.new.self s.heading s.moves c.publish_entry.ensures e.heading e.moves e.entry in
-    let filled = subst (λ (ns : List Node). Filled c.end_entry.new.self c.publish_nodes.new.tables (map (published_line R place) ns)) c.nodes.ensures c.publish_nodes.ensures in
-    record { lines = whole h _ _ b _ _ filled; count = whole-count h _ _ b _ _ filled }
+    record { lines = whole h _ _ b _ _ c.publish_nodes.ensures; count = whole-count h _ _ b _ _ c.publish_nodes.ensures }
