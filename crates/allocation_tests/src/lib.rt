@@ -24,10 +24,10 @@ mod tests {
     }
 
     fn read(holder: &mut Holder, text: &[u8], parameters: u8, nodes: u16) -> Option<Numbers> {
-        match holder.read(text, parameters, nodes) {
-            Ok(_) => None,
-            Err(refusal) => Some(Numbers::from(refusal)),
-        }
+        holder
+            .read(text, parameters, nodes)
+            .err()
+            .map(Numbers::from)
     }
 
     // Each of the texts is refused alike, for a source with 2 parameters and 5 nodes.

@@ -22,18 +22,12 @@ mod tests {
     }
 
     fn load(loader: &mut Loader, text: &[u8]) -> Option<Numbers> {
-        match loader.load(text) {
-            Ok(_) => None,
-            Err(refusal) => Some(Numbers::from(refusal)),
-        }
+        loader.load(text).err().map(Numbers::from)
     }
 
     fn counts(rt: &HostRuntime, text: &[u8]) -> Result<Option<(u8, u16, u32)>, Fail> {
         let mut loader = Loader::new(rt.alloc())?;
-        match loader.load(text) {
-            Ok(counts) => Ok(Some(counts)),
-            Err(_) => Ok(None),
-        }
+        Ok(loader.load(text).ok())
     }
 
     #[test]

@@ -8,7 +8,7 @@ mod tests {
     use crate::worked::worked;
     use machine::outcome::{Entry, Outcome, Report};
     use machine::run::run;
-    use refusal::Refusal;
+    use refusal::{Numbers, Refusal};
     use source::node::{Condition, Operation};
     use std::test::Fail;
     use values::frame::{Banked, Flat, Frame};
@@ -34,6 +34,10 @@ mod tests {
             moves: 3,
             entries,
         }
+    }
+
+    fn question(refusal: Refusal) -> u8 {
+        Numbers::from(refusal).question
     }
 
     #[test]
@@ -180,8 +184,8 @@ mod tests {
             row: vec![in rt.alloc(); Word(7); 7]?,
         };
         assert_eq!(rt;
-            run(&worked(), 9, &[Word(1)], &mut host, &mut frame, &mut []),
-            Err(Refusal::Arguments)
+            run(&worked(), 9, &[Word(1)], &mut host, &mut frame, &mut []).map_err(question),
+            Err(51)
         );
         assert_eq!(rt;
             run(
@@ -191,8 +195,9 @@ mod tests {
                 &mut host,
                 &mut frame,
                 &mut []
-            ),
-            Err(Refusal::Cells)
+            )
+            .map_err(question),
+            Err(52)
         );
         assert_eq!(rt; host.ask(0, Word(0), Word(0)), Word(9));
         assert_eq!(rt; frame.row.as_slice(), [Word(7); 7].as_slice());

@@ -21,20 +21,17 @@ mod tests {
         reader: &mut Reader,
         text: &[u8],
         memory: &mut [u64],
-    ) -> (u16, Numbers) {
-        match offer(loader, reader, text, memory) {
-            Ok(moves) => (moves, refused(0, 0, 0, 0)),
-            Err(refusal) => (0, Numbers::from(refusal)),
-        }
+    ) -> Result<u16, Numbers> {
+        offer(loader, reader, text, memory).map_err(Numbers::from)
     }
 
-    fn refused(question: u8, place: usize, temporary: u8, location: u8) -> Numbers {
-        Numbers {
+    fn refused(question: u8, place: usize, temporary: u8, location: u8) -> Result<u16, Numbers> {
+        Err(Numbers {
             question,
             place,
             temporary,
             location,
-        }
+        })
     }
 
     // The sets before the nodes are left in the words of the nodes, and the words past them stay.
@@ -47,12 +44,12 @@ mod tests {
         let text =
             b"alloc\t4\t4\t5\nentry\tr1\ts1\nin\tr2\ts0\nadd\tr0\tr2\tr1\nskip\nin\tr3\ts0\nbr\tlt\tr0\tr3\ncall\tr0\t7\tr0\tr1\nret\tr0\n";
         assert_eq!(rt;
-            answer(&loader, &mut reader, text, memory.as_mut_slice()).1,
+            answer(&loader, &mut reader, text, memory.as_mut_slice()),
             refused(20, 0, 0, 0)
         );
         assert!(rt; loader.load(WORKED).is_ok());
         assert_eq!(rt;
-            answer(&loader, &mut reader, text, short.as_mut_slice()).1,
+            answer(&loader, &mut reader, text, short.as_mut_slice()),
             refused(31, 0, 0, 0)
         );
         assert_eq!(rt;
@@ -61,14 +58,13 @@ mod tests {
                 &mut reader,
                 b"alloc\t4\t4\t5\n",
                 memory.as_mut_slice(),
-            )
-            .1,
+            ),
             refused(27, 2, 0, 0)
         );
         assert_eq!(rt; memory.get(128).copied(), Some(u64::MAX));
         assert_eq!(rt;
-            answer(&loader, &mut reader, text, memory.as_mut_slice()).0,
-            3
+            answer(&loader, &mut reader, text, memory.as_mut_slice()),
+            Ok(3)
         );
         for (word, set) in [
             (127usize, 0u64),
@@ -133,7 +129,7 @@ mod tests {
             ),
         ] {
             assert_eq!(rt;
-                answer(&loader, &mut reader, text, memory.as_mut_slice()).1,
+                answer(&loader, &mut reader, text, memory.as_mut_slice()),
                 numbers
             );
         }
@@ -150,14 +146,14 @@ mod tests {
         let text =
             b"alloc\t4\t2\t4\nentry\tr0\ts0\nconst\tr1\t1\nsub\tr0\tr0\tr1\nbr\tlt\tr1\tr0\nout\tr1\tr0\nret\tr0\n";
         assert_eq!(rt;
-            answer(&loader, &mut reader, text, memory.as_mut_slice()).1,
+            answer(&loader, &mut reader, text, memory.as_mut_slice()),
             refused(34, 1, 1, 0)
         );
         let text =
             b"alloc\t4\t2\t4\nentry\tr0\ts0\nconst\tr1\t1\nsub\tr0\tr0\tr1\nbr\tlt\tr1\tr0\nret\tr0\n";
         assert_eq!(rt;
-            answer(&loader, &mut reader, text, memory.as_mut_slice()).0,
-            1
+            answer(&loader, &mut reader, text, memory.as_mut_slice()),
+            Ok(1)
         );
         Ok(())
     }

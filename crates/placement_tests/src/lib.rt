@@ -55,11 +55,7 @@ mod tests {
         out: &mut [u8],
         text: &[u8],
     ) -> Result<(), Fail> {
-        let Some(source) = loader.source() else {
-            assert!(rt; false);
-            return Ok(());
-        };
-        let heading = source.heading;
+        let heading = loader.source().ok_or("nothing is held")?.heading;
         assert_eq!(rt; write(tables, out, 0).ok(), Some(text.len()));
         assert!(rt; out.get(..text.len()) == Some(text));
         assert!(rt; reader.read(text, heading.parameters, heading.nodes).is_ok());
@@ -189,25 +185,23 @@ mod tests {
         )
     }
 
-    // The places that the placer writes, or false where they cannot be asked for.
-    fn colour(loader: &Loader, registers: u8, out: &mut [Place]) -> bool {
-        let Some(source) = loader.source() else {
-            return false;
-        };
+    // Has the placer write its places; none where they cannot be asked for.
+    fn colour(loader: &Loader, registers: u8, out: &mut [Place]) -> Option<()> {
+        let source = loader.source()?;
         if out.len() != source.heading.temporaries as usize || !(3..=16).contains(&registers) {
-            return false;
+            return None;
         }
         Colouring.place(&source, registers, out);
-        true
+        Some(())
     }
 
     #[test]
     fn worked_places(rt: HostRuntime) -> Result<(), Fail> {
         let mut loader = Loader::new(rt.alloc())?;
         let mut out = [Place::Register(9); 4];
-        assert!(rt; !colour(&loader, 4, &mut out));
+        assert!(rt; colour(&loader, 4, &mut out).is_none());
         assert!(rt; loader.load(WORKED).is_ok());
-        assert!(rt; colour(&loader, 4, &mut out));
+        assert!(rt; colour(&loader, 4, &mut out).is_some());
         assert!(rt;
             out == [
                 Place::Home,
@@ -239,7 +233,7 @@ mod tests {
                 Ok(moves),
             )?;
         }
-        assert!(rt; colour(&loader, 16, out.as_mut_slice()));
+        assert!(rt; colour(&loader, 16, out.as_mut_slice()).is_some());
         let (homes, held) = out.as_slice().split_at(34);
         assert!(rt; homes.iter().all(|place| *place == Place::Home));
         for (place, register) in held.iter().zip((0u8..14).rev()) {
@@ -286,10 +280,10 @@ mod tests {
             (b"source\t1\t1\t256\n", 256, 16_384, Ok(1), 1),
         ] {
             load_returns(&rt, &mut loader, heading, nodes)?;
-            let Some(lent) = memory.as_mut_slice().get_mut(..words) else {
-                assert!(rt; false);
-                return Ok(());
-            };
+            let lent = memory
+                .as_mut_slice()
+                .get_mut(..words)
+                .ok_or("the memory is short")?;
             check_place(&rt, &loader, &mut tables, &Colouring, 3, lent, expected)?;
             assert_eq!(rt; memory.get(0).copied(), Some(first));
         }

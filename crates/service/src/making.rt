@@ -42,10 +42,11 @@ impl<P: Placer> Step for Place<P> {
     }
 }
 
-impl<V: Kind, H: Host<Value = V>, F: Frame<Value = V>> Step for Run<V, H, F> {
-    ghost Made = { RunServed V.Kind.arithmetic H.Host.means H.Host.state H.Host.lent F.Frame.cells };
-
-    fn make(&mut self, engine: &mut Engine) {
+impl<V: Kind, H: Host<Value = V>, F: Frame<Value = V>> Run<V, H, F> {
+    // A run changes no table of the engine.
+    pub fn make(&mut self, engine: &Engine)
+        ensures { RunServed V.Kind.arithmetic H.Host.means H.Host.state H.Host.lent F.Frame.cells (held engine.now) self.old self.new (held engine.now) }
+    {
         self.answer = Some(engine.run(
             self.budget,
             &self.args,
@@ -56,11 +57,28 @@ impl<V: Kind, H: Host<Value = V>, F: Frame<Value = V>> Step for Run<V, H, F> {
     }
 }
 
+impl<V: Kind, H: Host<Value = V>, F: Frame<Value = V>> Step for Run<V, H, F> {
+    ghost Made = { RunServed V.Kind.arithmetic H.Host.means H.Host.state H.Host.lent F.Frame.cells };
+
+    fn make(&mut self, engine: &mut Engine) {
+        self.make(engine);
+    }
+}
+
+impl Write {
+    // A call of this kind changes no table of the engine.
+    pub fn make(&mut self, engine: &Engine)
+        ensures { WriteServed (held engine.now) self.old self.new (held engine.now) }
+    {
+        self.answer = Some(engine.write(&mut self.buffer, self.at));
+    }
+}
+
 impl Step for Write {
     ghost Made = { WriteServed };
 
     fn make(&mut self, engine: &mut Engine) {
-        self.answer = Some(engine.write(&mut self.buffer, self.at));
+        self.make(engine);
     }
 }
 

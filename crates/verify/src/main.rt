@@ -7,6 +7,7 @@ use loader::holder::Loader;
 use offer::offer;
 use reading::reader::Reader;
 use refusal::Refusal;
+use std::alloc::{AllocError, Global};
 use std::env;
 
 // Words of work memory: enough for 256 nodes.
@@ -25,15 +26,15 @@ fn text_of(rt: &HostRuntime, path: &str) -> anyhow::Result<Vec<u8>> {
 }
 
 // Loads the source and offers the allocation: how many moves it has, or the refusal.
-fn check(
-    loader: &mut Loader,
-    reader: &mut Reader,
-    source: &[u8],
-    text: &[u8],
-    memory: &mut [u64],
-) -> Result<u16, Refusal> {
-    loader.load(source)?;
-    offer(loader, reader, text, memory)
+fn check(heap: Global, source: &[u8], text: &[u8]) -> Result<Result<u16, Refusal>, AllocError> {
+    let mut loader = Loader::new(heap)?;
+    if let Err(refusal) = loader.load(source) {
+        return Ok(Err(refusal));
+    }
+    // for a source that is refused, nothing more is taken
+    let mut reader = Reader::new(heap)?;
+    let mut memory = vec![in heap; 0u64; WORDS]?;
+    Ok(offer(&loader, &mut reader, text, &mut memory))
 }
 
 fn main(rt: HostRuntime) -> anyhow::Result<()> {
@@ -44,11 +45,7 @@ fn main(rt: HostRuntime) -> anyhow::Result<()> {
     };
     let source = text_of(&rt, source.as_str())?;
     let allocation = text_of(&rt, allocation.as_str())?;
-    let heap = rt.alloc();
-    let mut loader = Loader::new(heap)?;
-    let mut reader = Reader::new(heap)?;
-    let mut memory = vec![in heap; 0u64; WORDS]?;
-    match check(&mut loader, &mut reader, &source, &allocation, &mut memory) {
+    match check(rt.alloc(), &source, &allocation)? {
         Ok(moves) => println!(rt; "accepted\t{moves}")?,
         Err(refusal) => {
             println!(rt; "{refusal}")?;

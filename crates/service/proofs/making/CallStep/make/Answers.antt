@@ -1,4 +1,4 @@
-use Rattle.std.proofs.Common.{refl}
+use Rattle.std.proofs.Common.{refl, rules}
 use Rattle.service.proofs.making.CallStep.make.Goals as goal
 
 pub returns-in-Load : goal.returns-in-Load
@@ -11,7 +11,7 @@ pub returns-in-Place : goal.returns-in-Place
 returns-in-Place g c = simp c.in-Place.is (_, refl, c.make-in-Place.ensures)
 
 pub returns-in-Run : goal.returns-in-Run
-returns-in-Run g c = simp c.in-Run.is (_, refl, c.make-in-Run.ensures)
+returns-in-Run g c = simp c.in-Run.is (_, refl, search rules)
 
 pub returns-in-Write : goal.returns-in-Write
 returns-in-Write g c = simp c.in-Write.is (_, refl, c.make-in-Write.ensures)
