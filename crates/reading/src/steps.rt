@@ -24,6 +24,7 @@ use refusal::Refusal;
 use std::alloc::{AllocError, Global};
 use text::fields::Fault;
 use text::lines::{Line, Lines};
+use text::parts::is_sized;
 
 // A fault of the line with this number. Each kind of text has two refusals of its own, so each has this match.
 fn refuse(line: usize, fault: Fault) -> Refusal
@@ -306,9 +307,10 @@ impl Reader {
         ensures text { OnOk result (render (allocation_of self.new.tables) ≡ text.now) }
         ensures moves { OnOk result (length (moves_in self.new.tables) ≡ move_count (allocation_of self.new.tables)) }
     {
-        let Some(mut lines) = Lines::of(text) else {
+        if !is_sized(text) {
             return Err(Refusal::AllocationSize);
-        };
+        }
+        let mut lines = Lines::of(text);
         let Some(heading) = lines
             .next()
             .and_then(|line| find_heading(&line, parameters, nodes))

@@ -13,6 +13,7 @@ use refusal::Refusal;
 use std::alloc::{AllocError, Global};
 use text::fields::Fault;
 use text::lines::Lines;
+use text::parts::is_sized;
 
 // A fault of the line with this number. Each kind of text has two refusals of its own, so each has this match.
 fn refuse(line: usize, fault: Fault) -> Refusal
@@ -79,9 +80,10 @@ impl Table {
         ensures read { MatchResult result (λ h. read_source text.now ≡ Ok (source_in h self.new)) (λ e. read_source text.now ≡ Err e) }
     {
         self.nodes.clear();
-        let Some(mut lines) = Lines::of(text) else {
+        if !is_sized(text) {
             return Err(Refusal::SourceSize);
-        };
+        }
+        let mut lines = Lines::of(text);
         let Some(h) = lines.next().and_then(|line| find_heading(&line)) else {
             return Err(Refusal::SourceHeading);
         };

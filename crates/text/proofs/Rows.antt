@@ -21,7 +21,7 @@ yielded s (x ∷ xs) t (j, step, y) =
     )
 
 -- all fields of a line are given
-all_yielded : (s : Fields) (xs : List Field) → Drains FieldSteps s xs → (map bytes xs ≡ fields_left s) × (map shape xs ≡ map shape_of (fields_left s)) × (map start_of xs ≡ starts s.start (fields_left s))
+pub all_yielded : (s : Fields) (xs : List Field) → Drains FieldSteps s xs → (map bytes xs ≡ fields_left s) × (map shape xs ≡ map shape_of (fields_left s)) × (map start_of xs ≡ starts s.start (fields_left s))
 all_yielded s xs (u, (t, y, end)) =
     let all = yielded s xs t y in
     let same : map bytes xs ≡ fields_left s = sym (append-nil _) ∙ ap (λ l. map bytes xs ++ l) (sym end.0) ∙ all.0 in (
@@ -31,7 +31,7 @@ all_yielded s xs (u, (t, y, end)) =
     )
 
 -- there is a field besides those that are given
-one_more : (s : Fields) (xs : List Field) (x : Field) (u : Fields) → YieldsThen FieldSteps s xs (Some x) u → length xs < length (fields_left s)
+pub one_more : (s : Fields) (xs : List Field) (x : Field) (u : Fields) → YieldsThen FieldSteps s xs (Some x) u → length xs < length (fields_left s)
 one_more s xs x u (t, y, step) = omega (arith, ap length (yielded s xs t y).0, length-append (map bytes xs) (fields_left t), length-map xs bytes, ap length step.0)
 
 -- a row that the fields are put into, by what the library says of it
@@ -53,3 +53,7 @@ module _ {E : Type 0} (f : Fields) (was new : List Field) (empty : was ≡ []) w
 -- as many lines are counted as are left
 pub lines_counted : (s : Lines) (n : ℕ) → (xs : List Line) × Drains LineSteps s xs × (n ≡ length xs) → n ≡ length (lines_left s)
 lines_counted s n ran = count_from_yields_List s n ran (YieldsList-from_shown LineSteps (λ l. l.bytes.now) lines_left (λ s t e. ap length e.0) (λ s l t e. e.0) s)
+
+-- as many fields are counted as are left
+pub fields_counted : (s : Fields) (n : ℕ) → (xs : List Field) × Drains FieldSteps s xs × (n ≡ length xs) → n ≡ length (fields_left s)
+fields_counted s n ran = count_from_yields_List s n ran (YieldsList-from_shown FieldSteps bytes fields_left (λ s t e. ap length e.0) (λ s f t e. e.0) s)

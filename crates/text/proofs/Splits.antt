@@ -135,3 +135,12 @@ few_parts b (c ∷ cs) = cond_both (eqb c b) ([] ∷ parts b [] cs) (on_first c 
 pub few_lines : (s : List ℕ) → length (lines_of s) ≤ length s
 unfolding lines_of
 few_lines s = few_parts 10 s
+
+-- each field but the last has a byte, or an end
+pub few_fields : (s : List ℕ) → length (fields_of s) ≤ length s + 1
+few_fields [] = omega arith
+few_fields (c ∷ cs) = cond_both (eqb c 9) ([] ∷ fields_of cs) (on_first c (fields_of cs)) (λ p. length p ≤ length (c ∷ cs) + 1) (λ _. omega (arith, few_fields cs)) (λ _. some (fields_of cs) (few_fields cs))
+  where
+    some : (ps : List (List ℕ)) → length ps ≤ length cs + 1 → length (on_first c ps) ≤ length (c ∷ cs) + 1
+    some [] l = omega arith
+    some (p ∷ ps) l = omega arith

@@ -45,24 +45,6 @@ fn read_location(s: &[u8]) -> Option<Location>
     }
 }
 
-pub(crate) fn read_field<'a>(text: &'a [u8], start: usize) -> Field<'a>
-    ensures shape { shape result ≡ shape_of text.now }
-    ensures bytes { bytes result ≡ text.now }
-    ensures place { start_of result ≡ start }
-{
-    if let Some(value) = read_number(text) {
-        return Field::Number { text, start, value };
-    }
-    match read_location(text) {
-        Some(location) => Field::Location {
-            text,
-            start,
-            location,
-        },
-        None => Field::Word { text, start },
-    }
-}
-
 // What the unused places of a row hold.
 impl<'a> Default for Field<'a> {
     ghost is_default = { λ f. (shape f ≡ word []) × (bytes f ≡ []) × (start_of f ≡ 0) };
@@ -76,6 +58,25 @@ impl<'a> Default for Field<'a> {
 }
 
 impl<'a> Field<'a> {
+    // The field with these bytes, which stands at `start` in its text.
+    pub fn of(text: &'a [u8], start: usize) -> Self
+        ensures shape { shape result ≡ shape_of text.now }
+        ensures bytes { bytes result ≡ text.now }
+        ensures place { start_of result ≡ start }
+    {
+        if let Some(value) = read_number(text) {
+            return Field::Number { text, start, value };
+        }
+        match read_location(text) {
+            Some(location) => Field::Location {
+                text,
+                start,
+                location,
+            },
+            None => Field::Word { text, start },
+        }
+    }
+
     // The number that the field says, where it lies from `low` to `high`.
     pub fn number_between(&self, low: u64, high: u64) -> Option<u64>
         ensures value { result ≡ number_between low high (shape self.now) }
@@ -129,11 +130,7 @@ impl<'a> Line<'a> {
         ensures starts { IfSome result (λ row. map start_of row.items ≡ starts self.now.start (fields_of self.now.bytes.now)) }
     {
         let mut row = ArrayVec::new();
-        let fields = Fields {
-            rest: Some(self.bytes),
-            start: self.start,
-        };
-        row.extend(fields).ok()?;
+        row.extend(Fields::of(self.bytes, self.start)).ok()?;
         Some(row)
     }
 

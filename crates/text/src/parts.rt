@@ -1,9 +1,9 @@
 // A text is cut into lines, and a line into fields, at a separator byte.
-ghost use Rattle.std.specs.Prelude.{◌≡◌, ◌∷◌, ◌++◌, ◌↔◌, true, length, IsSome, IfSome, MatchOption};
-ghost use Rattle.text.specs.Parts.{first_part, lines_of, sized};
-ghost use Rattle.text.specs.Lines.{lines_left, line_count, LineSteps, field_count, FieldSteps};
+ghost use Rattle.std.specs.Prelude.{◌≡◌, ◌+◌, ◌^◌, ◌<◌, ◌∷◌, ◌++◌, length, MatchOption};
+ghost use Rattle.text.specs.Parts.{first_part, lines_of, fields_of, sized};
+ghost use Rattle.text.specs.Lines.{lines_left, line_count, LineSteps, fields_left, field_count, FieldSteps};
 
-use crate::fields::{Field, read_field};
+use crate::fields::Field;
 use crate::lines::{Fields, Line, Lines};
 
 // What stands before the first `sep`, and what stands after it, if there is one.
@@ -26,21 +26,17 @@ pub fn is_sized(text: &[u8]) -> bool
 }
 
 impl<'a> Lines<'a> {
-    // The lines of a text that is sized.
-    pub fn of(text: &'a [u8]) -> Option<Self>
-        ensures sized { IsSome result ↔ (sized text.now ≡ true) }
-        ensures lines { IfSome result (λ l. lines_left l ≡ lines_of text.now) }
-        ensures start { IfSome result (λ l. l.start ≡ 0) }
-        ensures number { IfSome result (λ l. l.number ≡ 1) }
+    // The lines of a text of any size.
+    pub fn of(text: &'a [u8]) -> Self
+        ensures lines { lines_left result ≡ lines_of text.now }
+        ensures start { result.start ≡ 0 }
+        ensures number { result.number ≡ 1 }
     {
-        if !is_sized(text) {
-            return None;
-        }
-        Some(Lines {
+        Lines {
             rest: text,
             start: 0,
             number: 1,
-        })
+        }
     }
 
     // The number of the first line that is left.
@@ -78,6 +74,20 @@ impl<'a> Iterator for Lines<'a> {
     }
 }
 
+impl<'a> Fields<'a> {
+    // The fields of a line that stands at `start` in its text.
+    pub fn of(line: &'a [u8], start: usize) -> Self
+        requires within { start + length line.now < 2 ^ 63 }
+        ensures fields { fields_left result ≡ fields_of line.now }
+        ensures start { result.start ≡ start }
+    {
+        Fields {
+            rest: Some(line),
+            start,
+        }
+    }
+}
+
 impl<'a> Iterator for Fields<'a> {
     type Item = Field<'a>;
 
@@ -87,7 +97,7 @@ impl<'a> Iterator for Fields<'a> {
 
     fn next(&mut self) -> Option<Field<'a>> {
         let (text, rest) = cut(self.rest?, b'\t');
-        let field = read_field(text, self.start);
+        let field = Field::of(text, self.start);
         self.start += text.len() + 1;
         self.rest = rest;
         Some(field)

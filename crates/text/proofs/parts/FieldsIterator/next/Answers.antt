@@ -4,13 +4,13 @@ use Rattle.text.specs.Lines.{fields_in, fields_left}
 use Rattle.text.proofs.Splits.{field_first}
 use Rattle.text.proofs.parts.FieldsIterator.next.Goals as goal
 
-first_left : (c : goal.After-self-1) → fields_left c.args.self.now ≡ bytes c.read_field-field.result ∷ fields_in c.cut.result.1
+first_left : (c : goal.After-self-1) → fields_left c.args.self.now ≡ bytes c.of-field.result ∷ fields_in c.cut.result.1
 first_left c =
-    ap fields_in c.in_ok-self.was ∙ field_first _ c.cut.result.0.now c.cut.result.1 c.cut.ensures.first c.cut.ensures.rest ∙ ap (λ f. f ∷ fields_in c.cut.result.1) (sym c.read_field-field.ensures.bytes)
+    ap fields_in c.in_ok-self.was ∙ field_first _ c.cut.result.0.now c.cut.result.1 c.cut.ensures.first c.cut.ensures.rest ∙ ap (λ f. f ∷ fields_in c.cut.result.1) (sym c.of-field.ensures.bytes)
 
 pub returns-clause-steps : goal.returns-clause-steps
 returns-clause-steps c =
-    (first_left c, c.read_field-field.ensures.shape ∙ ap shape_of (sym c.read_field-field.ensures.bytes), c.read_field-field.ensures.place, omega (arith, ap length c.read_field-field.ensures.bytes))
+    (first_left c, c.of-field.ensures.shape ∙ ap shape_of (sym c.of-field.ensures.bytes), c.of-field.ensures.place, omega (arith, ap length c.of-field.ensures.bytes))
 
 pub returns-clause-goes : goal.returns-clause-goes
 returns-clause-goes c =
