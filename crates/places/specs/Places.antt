@@ -5,7 +5,6 @@ use Rattle.source.specs.Nodes.{result_of, node_at, AllSound}
 use Rattle.source.specs.Reading.{Source}
 use Rattle.source.specs.declared.node.Node.{Node}
 use Rattle.source.specs.declared.node.Node.TheVariants.{Const, Mov, Binary, Call, Branch, Return}
-use Rattle.source.specs.Tables.{source_in}
 use Rattle.loader.specs.Live.{out_of, is_result, live_sets, Liveness}
 use Rattle.loader.specs.declared.held.LoadedSource.{LoadedSource}
 use Rattle.places.specs.declared.place.Place.{Place}

@@ -3,7 +3,6 @@ use Rattle.std.proofs.lemmas.List.{length_push}
 use Rattle.std.proofs.lemmas.Slice.Zip.{zip_turn}
 use Rattle.sets.specs.Masks.{bit, names}
 use Rattle.source.specs.Nodes.{node_at, result_of}
-use Rattle.source.specs.Tables.{nodes_in}
 use Rattle.source.specs.declared.node.Node.TheVariants.{Const}
 use Rattle.loader.specs.Live.{live_sets, is_result}
 use Rattle.colouring.specs.Colouring.{some}

@@ -1,7 +1,6 @@
 use Rattle.std.proofs.Common.{◌≡◌, ℕ, ◌||◌, length}
 use Rattle.sets.specs.Masks.{bit}
 use Rattle.source.specs.Nodes.{node_at}
-use Rattle.source.specs.Tables.{nodes_in}
 use Rattle.loader.specs.Live.{live_sets, is_result}
 use Rattle.colouring.specs.Colouring.{some}
 use Rattle.colouring.proofs.conflicts.find_used.Given as goal

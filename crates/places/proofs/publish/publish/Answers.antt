@@ -1,9 +1,7 @@
-use Rattle.std.proofs.Common.{◌+◌, ◌*◌, List, map, length, sym, refl, ap, subst, arith}
-use Rattle.source.specs.declared.node.Node.{Node}
+use Rattle.std.proofs.Common.{◌+◌, ◌*◌, length, sym, refl, arith}
 use Rattle.allocation.specs.declared.heading.Heading.{Heading}
 use Rattle.places.specs.Places.{locations, live_of}
-use Rattle.places.specs.Publish.{entry_moves, published_line}
-use Rattle.places.specs.Steps.{Filled}
+use Rattle.places.specs.Publish.{entry_moves}
 use Rattle.places.proofs.Count.{entry_few}
 use Rattle.places.proofs.Filling.{begun, begun_open, whole, whole-count}
 use Rattle.places.proofs.publish.publish.Goals as goal

@@ -3,7 +3,6 @@ use mathlib.Core.Bool.{Bool-set}
 use mathlib.Core.Logic.{∥∥₁_elim}
 use Rattle.std.proofs.lemmas.Bool.{ltb-true, lt-ltb}
 use Rattle.source.specs.Nodes.{AllSound}
-use Rattle.source.specs.Tables.{nodes_in}
 use Rattle.source.specs.declared.node.Node.{Node}
 use Rattle.loader.specs.Live.{Liveness, live_sets}
 use Rattle.loader.proofs.holder.Loader.source.Goals as goal
