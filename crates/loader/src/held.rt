@@ -21,8 +21,9 @@ pub struct LoadedSource<'a> {
 }
 
 impl Loader {
-    ghost use Rattle.std.specs.Prelude.{None, MatchOption};
+    ghost use Rattle.std.specs.Prelude.{ℕ, true, None, Some, MatchOption};
     ghost use Rattle.source.specs.Tables.{nodes_in};
+    ghost use Rattle.loader.specs.Live.{Liveness, live_sets};
     ghost use Rattle.loader.specs.Load.{Shows, live_words};
 
     // The numbers of the loaded source, if one is loaded.
@@ -34,21 +35,28 @@ impl Loader {
 
     // Its table of nodes, for the check.
     pub fn table(&self) -> &Table
-        ensures { result.now ≡ self.now.tables.nodes }
+        ensures table { result.now ≡ self.now.tables.nodes }
+        ensures sound { (h : Heading) → self.now.loaded ≡ Some h → AllSound h.temporaries (nodes_in result.now) }
+        ensures few { (h : Heading) → self.now.loaded ≡ Some h → h.temporaries ≤ 48 }
+        ensures some { (h : Heading) → self.now.loaded ≡ Some h → 0 < h.nodes }
+        ensures long { (h : Heading) → self.now.loaded ≡ Some h → length (nodes_in result.now) ≡ h.nodes }
     {
         &self.tables.nodes
     }
 
     // Its nodes.
     pub fn nodes(&self) -> &[Node]
-        ensures { result.now ≡ nodes_in self.now.tables.nodes }
+        ensures nodes { result.now ≡ nodes_in self.now.tables.nodes }
+        ensures sound { (h : Heading) → self.now.loaded ≡ Some h → AllSound h.temporaries result.now }
     {
         self.tables.nodes.nodes()
     }
 
     // For each of its nodes, the mask of the temporaries live into it.
     pub fn live(&self) -> &[u64]
-        ensures { result.now ≡ live_words self.now }
+        ensures words { result.now ≡ live_words self.now }
+        ensures entry { (h : Heading) → self.now.loaded ≡ Some h → (v : ℕ) → live_sets result.now 0 v ≡ true → v < h.parameters }
+        ensures live { (h : Heading) → self.now.loaded ≡ Some h → Liveness (nodes_in self.now.tables.nodes) (live_sets result.now) }
     {
         self.tables.live.as_slice()
     }

@@ -24,7 +24,7 @@ check_counted-requires g c =
     let o = c.in_ok-source.source in
     let is = MatchOption-at_some _ _ o c.in_ok-source.ensures.ok_part c.source.ensures in
     let n = c.in_ok-registers.registers in
-    subst (λ (s : Source). Fits s (allocation_of c.publish.new.tables)) (sym (table_source l o c.table.result.now is c.table.ensures))
+    subst (λ (s : Source). Fits s (allocation_of c.publish.new.tables)) (sym (table_source l o c.table.result.now is c.table.ensures.table))
     (subst (λ (a : Allocation). Fits (source_of o) a) (sym c.publish.ensures.lines)
     (fits (source_of o) (live_of o) n c.place.new.out (loadable l o is)))
 
@@ -38,7 +38,7 @@ returns g c =
     let places = g.P.Placer.places c.args.placer.now in
     let b = allocation_of c.publish.new.tables in
     let v = c.check_counted.ensures in
-    let same = table_source c.args.loader.now o c.table.result.now is c.table.ensures in
+    let same = table_source c.args.loader.now o c.table.result.now is c.table.ensures.table in
     subst (λ (R : ℕ). Placed places (loaded_source c.args.loader.now) (live_words c.args.loader.now) R c.args.memory.now b c.check_counted.new.memory c.check_counted.result) enough.1
     (answered_loaded places (g.met.P.Placer.lawful c.args.placer.now) c.args.loader.now o is n low c.place.new.out c.place.ensures b c.publish.ensures.lines c.args.memory.now c.check_counted.new.memory c.check_counted.result
     (subst (λ (s : Source). Verdict s b c.args.memory.now c.check_counted.new.memory c.check_counted.result) same (record { verdict = v.verdict; count = v.count; memory = v.memory })))

@@ -14,6 +14,6 @@ invariant_of-self-2 c =
     let shows = c.in-Some.ensures in
     let h = c.in-Some.loaded.heading in record {
       accepted = stands h e.loader.tables.nodes c.copy_from.new.self c.offer.new.spare.tables c.exchange.new.tables _
-          (c.copy_from.ensures ∙ ap nodes_in c.table.ensures) c.exchange.ensures.given
+          (c.copy_from.ensures ∙ ap nodes_in c.table.ensures.table) c.exchange.ensures.given
           (offer_stands e.loader.loaded h e.loader.tables.nodes c.args.text.now c.args.memory.now _ _ c.in_ok-count.count shows.heading c.in_ok-count.ensures.answer);
     }

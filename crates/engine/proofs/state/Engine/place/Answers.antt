@@ -15,6 +15,6 @@ invariant_of-self-2 g c =
     let e = c.args.self.now in
     let shows = c.in-Some.ensures in
     let h = c.in-Some.loaded.heading in record {
-      accepted = stands h e.loader.tables.nodes c.copy_from.new.self c.place.new.spare c.swap.new.y _ (c.copy_from.ensures ∙ ap nodes_in c.table.ensures) c.swap.ensures.y_after
+      accepted = stands h e.loader.tables.nodes c.copy_from.new.self c.place.new.spare c.swap.new.y _ (c.copy_from.ensures ∙ ap nodes_in c.table.ensures.table) c.swap.ensures.y_after
           (place_stands (g.P.Placer.places c.args.placer.now) e.loader.loaded h e.loader.tables.nodes (live_words e.loader) c.args.registers c.args.memory.now _ _ c.in_ok-count.count shows.heading c.in_ok-count.ensures);
     }
