@@ -17,6 +17,22 @@ fn cut(s: &[u8], sep: u8) -> (&[u8], Option<&[u8]>)
     }
 }
 
+// The first line of a text without its ending, and what stands after its end, if it has one.
+fn cut_line(s: &[u8]) -> (&[u8], Option<&[u8]>)
+    ensures first { result.0.now ≡ first_part 10 s.now }
+    ensures rest { MatchOption result.1 (s.now ≡ result.0.now) (λ r. s.now ≡ result.0.now ++ 10 ∷ r.now) }
+{
+    cut(s, b'\n')
+}
+
+// The first field of a line, and what stands after its end, if it has one.
+fn cut_field(s: &[u8]) -> (&[u8], Option<&[u8]>)
+    ensures first { result.0.now ≡ first_part 9 s.now }
+    ensures rest { MatchOption result.1 (s.now ≡ result.0.now) (λ r. s.now ≡ result.0.now ++ 9 ∷ r.now) }
+{
+    cut(s, b'\t')
+}
+
 // Whether a text has 1 to 32,768 bytes, the last of which ends a line.
 pub fn is_sized(text: &[u8]) -> bool
     ensures { result ≡ sized text.now }
@@ -58,7 +74,7 @@ impl<'a> Iterator for Lines<'a> {
         if self.rest.is_empty() {
             return None;
         }
-        let (bytes, rest) = cut(self.rest, b'\n');
+        let (bytes, rest) = cut_line(self.rest);
         let line = Line {
             bytes,
             start: self.start,
@@ -96,7 +112,7 @@ impl<'a> Iterator for Fields<'a> {
     ghost remaining = { field_count };
 
     fn next(&mut self) -> Option<Field<'a>> {
-        let (text, rest) = cut(self.rest?, b'\t');
+        let (text, rest) = cut_field(self.rest?);
         let field = Field::of(text, self.start);
         self.start += text.len() + 1;
         self.rest = rest;
