@@ -1,5 +1,5 @@
 // A text is cut into lines, and a line into fields, at a separator byte.
-ghost use Rattle.std.specs.Prelude.{◌≡◌, ◌+◌, ◌^◌, ◌<◌, ◌∷◌, ◌++◌, length, MatchOption};
+ghost use Rattle.std.specs.Prelude.{◌≡◌, ◌+◌, ◌^◌, ◌<◌, ◌≤◌, ◌∷◌, ◌++◌, length, drop, MatchOption};
 ghost use Rattle.text.specs.Parts.{first_part, lines_of, fields_of, sized};
 ghost use Rattle.text.specs.Lines.{lines_left, line_count, LineSteps, fields_left, field_count, FieldSteps};
 
@@ -31,6 +31,27 @@ fn cut_field(s: &[u8]) -> (&[u8], Option<&[u8]>)
     ensures rest { MatchOption result.1 (s.now ≡ result.0.now) (λ r. s.now ≡ result.0.now ++ 9 ∷ r.now) }
 {
     cut(s, b'\t')
+}
+
+// The line that begins at `at`, without its ending, and where the next one begins.
+pub fn next_line(text: &[u8], at: usize) -> (&[u8], usize)
+    requires { at < length text.now }
+    ensures cut { lines_of (drop at text.now) ≡ result.0.now ∷ lines_of (drop result.1 text.now) }
+    ensures long { at + length result.0.now < result.1 }
+    ensures within { result.1 ≤ length text.now + 1 }
+{
+    let (line, _) = cut_line(&text[at..]);
+    (line, at + line.len() + 1)
+}
+
+// How many lines there are from `at` on.
+pub fn count_lines(text: &[u8], at: usize) -> usize
+    ensures { result ≡ length (lines_of (drop at text.now)) }
+{
+    match text.get(at..) {
+        Some(rest) => Lines::of(rest).count(),
+        None => 0,
+    }
 }
 
 // Whether a text has 1 to 32,768 bytes, the last of which ends a line.
