@@ -1,5 +1,5 @@
 use Rattle.std.proofs.Common.{map, ap, ◌∙◌, rules}
-use Rattle.text.specs.Fields.{shape_of, starts}
+use Rattle.text.specs.Fields.{shape_of}
 use Rattle.text.proofs.Rows.{row_read, row_full}
 use Rattle.text.proofs.lines.Line.fields.Goals as goal
 
@@ -12,4 +12,7 @@ pub returns : goal.returns
 returns g c =
     let r = row_read _ _ _ c.new-row.ensures c.extend.result c.ok.result c.in_ok-ok.field-0 c.ok.ensures.value c.in_ok-ok.was c.extend.ensures.ran in
     let of = c.of.ensures in
-    record { few = tt; shapes = r.1 ∙ ap (map shape_of) of.fields; bytes = r.0 ∙ of.fields; starts = r.2 ∙ (λ i. starts (of.start i) (of.fields i)) }
+    let places = r.2 in
+    let start = of.start in
+    let fields = of.fields in
+    record { few = tt; shapes = r.1 ∙ ap (map shape_of) fields; bytes = r.0 ∙ fields; starts = search rules }
