@@ -132,6 +132,8 @@ impl<'a> Iterator for Fields<'a> {
 
     ghost remaining = { field_count };
 
+    // a call for each field would cost as much as reading it
+    #[inline(always)]
     fn next(&mut self) -> Option<Field<'a>> {
         let (text, rest) = cut_field(self.rest?);
         let field = Field::of(text, self.start);
