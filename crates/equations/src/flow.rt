@@ -122,9 +122,12 @@ fn store(memory: &mut [u64], at: usize, set: &EquationSet) -> bool
     ensures again { result ≡ true → room memory.new < room memory.old }
     ensures done { result ≡ false → memory.new ≡ memory.old }
 {
-    let changed = &memory[at..at + 64] != &set.words[..];
+    // most words stand as they are: only where one does not is the set written
+    if &memory[at..at + 64] == &set.words[..] {
+        return false;
+    }
     memory[at..at + 64].copy_from_slice(&set.words);
-    changed
+    true
 }
 
 // One pass over the nodes, from the last to the first: whether a set has grown.
@@ -162,4 +165,37 @@ pub fn solve(candidate: &Candidate, memory: &mut [u64])
     let end = 64 * candidate.nodes.len();
     memory[..end].fill(0);
     while pass(candidate, memory) {}
+}
+
+// `back_edge` of a set that is any 64 words.
+pub fn back_edge(set: &mut [u64], memory: &[u64], next: usize, moves: &[Move])
+    requires len { length set.old ≡ 64 }
+    requires at { 64 * next + 64 ≤ length memory.now }
+    requires moves { MovesReach moves.now }
+    ensures { held set.new ≡ back_moves moves.now (memory_sets memory.now next) }
+{
+    let mut edge = EquationSet { words: [0; 64] };
+    edge.back_edge(memory, next, moves);
+    set.copy_from_slice(&edge.words);
+}
+
+// `after_node` of a set that is any 64 words, among this many nodes.
+pub fn after_node(
+    set: &mut [u64],
+    node: Node,
+    row: Row,
+    moves: &[Move],
+    memory: &[u64],
+    nodes: usize,
+)
+    requires len { length set.old ≡ 64 }
+    requires sound { Sound 64 nodes node }
+    requires row { RowReach (length moves.now) row }
+    requires moves { MovesReach moves.now }
+    requires room { 64 * nodes ≤ length memory.now }
+    ensures { held set.new ≡ after (memory_sets memory.now) node (line_at moves.now row) }
+{
+    let mut after = EquationSet { words: [0; 64] };
+    after.after_node(node, row, moves, memory);
+    set.copy_from_slice(&after.words);
 }

@@ -40,8 +40,11 @@ pub fn read_file<F: Files>(heap: Global, files: &F, path: &str) -> io::Result<Ve
 
 #[cfg(test)]
 mod tests {
-    use crate::{read_first, read_text};
+    use crate::{read_file, read_first, read_text};
+    use std::fs;
     use std::test::Fail;
+
+    const PATH: &str = "input_read_file_test";
 
     #[test]
     fn first_bytes(rt: HostRuntime) -> Result<(), Fail> {
@@ -50,6 +53,21 @@ mod tests {
         assert_eq!(rt; all.as_slice(), text.as_slice());
         let some = read_first(rt.alloc(), text.as_slice(), 6)?;
         assert_eq!(rt; some.as_slice(), b"source".as_slice());
+        Ok(())
+    }
+
+    // a text, and one that is a byte longer than what is read of it
+    #[test]
+    fn bytes_of_a_file(rt: HostRuntime) -> Result<(), Fail> {
+        let text = b"source\t1\t1\t1\n";
+        fs::write(&rt, PATH, text.as_slice())?;
+        let all = read_file(rt.alloc(), &rt, PATH)?;
+        assert_eq!(rt; all.as_slice(), text.as_slice());
+        let long = vec![in rt.alloc(); b'\n'; 32_770]?;
+        fs::write(&rt, PATH, long.as_slice())?;
+        let first = read_file(rt.alloc(), &rt, PATH)?;
+        assert!(rt; first.as_slice() == &long[..32_769]);
+        fs::remove_file(&rt, PATH)?;
         Ok(())
     }
 }

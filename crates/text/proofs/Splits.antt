@@ -1,6 +1,7 @@
 -- Laws of parts.
-use Rattle.std.proofs.Common.{◌≡◌, ℕ, ◌+◌, ◌<◌, ◌≤◌, Bool, true, false, cond, eqb, ltb, List, [], ◌∷◌, ◌++◌, length, take, Some, None, Option, sym, refl, ap, ◌∙◌, arith, length-append, ltb-false, Bor, MatchOption}
-use Rattle.std.proofs.lemmas.List.{take_all}
+use Rattle.std.proofs.Common.{◌≡◌, ℕ, ◌+◌, ◌<◌, ◌≤◌, Bool, true, false, cond, eqb, ltb, List, [], ◌∷◌, ◌++◌, length, take, drop, Some, None, Option, sym, refl, ap, ◌∙◌, arith, length-append, ltb-false, Bor, MatchOption}
+use Rattle.std.proofs.lemmas.List.{take_all, drop_all, drop-drop, length-drop}
+use Rattle.std.proofs.Math.Seq.{drop-append-add}
 use Rattle.std.proofs.lemmas.List.Recursion.{is_position_or_len}
 use Rattle.std.proofs.lemmas.Bool.{cond-true, cond-false, cond_both}
 use Rattle.std.specs.List.{position_or_len}
@@ -105,6 +106,27 @@ pub line_first : (s p : List ℕ) (r : Option (Bor (List ℕ))) (d : Bor (List �
 unfolding lines_of
 line_first s p None d some first cut none = parts_whole 10 s (ap length (sym first ∙ sym cut)) some ∙ (λ i. cut i ∷ parts 10 [] (sym none i))
 line_first s p (Some x) d some first cut none = parts_more 10 [] s x.now (cut ∙ ap (λ q. q ++ 10 ∷ x.now) first) ∙ ap (λ q. q ∷ parts 10 [] x.now) (sym first)
+
+-- what stands after a line that is cut off
+after_line : (p x : List ℕ) → drop (length p + 1) (p ++ 10 ∷ x) ≡ x
+after_line p x = drop-append-add p (10 ∷ x) 1
+
+-- the line that is cut off, and those that begin after it
+line_next : (s p : List ℕ) (r : Option (Bor (List ℕ))) → 0 < length s → p ≡ first_part 10 s → MatchOption r (s ≡ p) (λ x. s ≡ p ++ 10 ∷ x.now) → lines_of s ≡ p ∷ lines_of (drop (length p + 1) s)
+unfolding lines_of
+line_next s p None some first cut =
+    parts_whole 10 s (ap length (sym first ∙ sym cut)) some ∙ (λ i. cut i ∷ parts 10 [] (sym (drop_all (length p + 1) s (omega (arith, ap length cut))) i))
+line_next s p (Some x) some first cut =
+    parts_more 10 [] s x.now (cut ∙ ap (λ q. q ++ 10 ∷ x.now) first)
+    ∙ (λ i. sym first i ∷ parts 10 [] (sym (ap (drop (length p + 1)) cut ∙ after_line p x.now) i))
+
+-- the line at `at`, and those that begin after it
+pub lines_at : (text : List ℕ) (at : ℕ) (s p : List ℕ) (r : Option (Bor (List ℕ))) → s ≡ drop at text → at < length text → p ≡ first_part 10 s → MatchOption r (s ≡ p) (λ x. s ≡ p ++ 10 ∷ x.now) → lines_of (drop at text) ≡ p ∷ lines_of (drop (at + length p + 1) text)
+lines_at text at s p r is h first cut =
+    let some : 0 < length s = omega (arith, ap length is, length-drop at text) in
+    let next : at + (length p + 1) ≡ at + length p + 1 = omega arith in
+    ap lines_of (sym is) ∙ line_next s p r some first cut
+    ∙ ap (λ t. p ∷ lines_of t) (ap (drop (length p + 1)) is ∙ drop-drop (length p + 1) at text ∙ ap (λ j. drop j text) next)
 
 pub rest_shorter : (s p : List ℕ) (r : Option (Bor (List ℕ))) (d w : Bor (List ℕ)) → MatchOption r (s ≡ p) (λ x. s ≡ p ++ 10 ∷ x.now) → d.now ≡ [] → w ≡ unwrap_or r d → length w.now ≤ length s
 rest_shorter s p None d w cut none is = omega (arith, ap length none, ap (λ x. length x.now) is)

@@ -3,6 +3,7 @@ ghost use Rattle.std.specs.Prelude.{◌≡◌, ◌+◌, ◌<◌, ◌≤◌, [], 
 ghost use Rattle.std.specs.Option.{option_map};
 ghost use Rattle.text.specs.Fields.{word, location_of, shape_of, shape, bytes, start_of, shapes_of, starts, number_between, number_below, word_in, says, after_title, first_word};
 ghost use Rattle.text.specs.Parts.{fields_of};
+ghost use Rattle.text.specs.Lines.{fields_left};
 
 use crate::lines::{Fields, Line};
 use crate::number::read_number;
@@ -59,6 +60,7 @@ impl<'a> Default for Field<'a> {
 
 impl<'a> Field<'a> {
     // The field with these bytes, which stands at `start` in its text.
+    #[inline(always)]
     pub fn of(text: &'a [u8], start: usize) -> Self
         ensures shape { shape result ≡ shape_of text.now }
         ensures bytes { bytes result ≡ text.now }
@@ -121,6 +123,20 @@ impl<'a> Field<'a> {
     }
 }
 
+impl<'a> Fields<'a> {
+    // What is left, where there are at most `N` fields.
+    fn row<const N: usize>(self) -> Option<ArrayVec<Field<'a>, N>>
+        ensures few { IfNone result (N < length (fields_left self.entry)) }
+        ensures bytes { IfSome result (λ row. map bytes row.items ≡ fields_left self.entry) }
+        ensures shapes { IfSome result (λ row. map shape row.items ≡ map shape_of (fields_left self.entry)) }
+        ensures starts { IfSome result (λ row. map start_of row.items ≡ starts self.entry.start (fields_left self.entry)) }
+    {
+        let mut row = ArrayVec::new();
+        row.extend(self).ok()?;
+        Some(row)
+    }
+}
+
 impl<'a> Line<'a> {
     // The fields of the line, where there are at most `N`.
     pub fn fields<const N: usize>(&self) -> Option<ArrayVec<Field<'a>, N>>
@@ -129,9 +145,7 @@ impl<'a> Line<'a> {
         ensures bytes { IfSome result (λ row. map bytes row.items ≡ fields_of self.now.bytes.now) }
         ensures starts { IfSome result (λ row. map start_of row.items ≡ starts self.now.start (fields_of self.now.bytes.now)) }
     {
-        let mut row = ArrayVec::new();
-        row.extend(Fields::of(self.bytes, self.start)).ok()?;
-        Some(row)
+        Fields::of(self.bytes, self.start).row()
     }
 
     // The word that the line begins with, and the fields after it, where there are at most `N` fields in all.
@@ -143,9 +157,10 @@ impl<'a> Line<'a> {
         ensures word { IfSome result (λ r. first_word W.spelling words.now (shapes_of self.now.bytes.now) ≡ Some r.0) }
         ensures rest { IfSome result (λ r. map shape r.1.items ≡ drop 1 (shapes_of self.now.bytes.now)) }
     {
-        let mut fields = self.fields::<N>()?;
-        let word = fields.pop_at(0)?.word_in(words)?;
-        Some((word, fields))
+        let mut fields = Fields::of(self.bytes, self.start);
+        let word = fields.next()?.word_in(words)?;
+        // only what follows the word is put into a row: taking it out of the front would move all others
+        Some((word, fields.row()?))
     }
 
     // The fields of a heading after its title, of which there are three.

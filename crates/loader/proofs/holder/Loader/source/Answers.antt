@@ -1,4 +1,4 @@
-use Rattle.std.proofs.Common.{◌≡◌, length, List, Some, sym, ap, ◌∙◌, subst, arith}
+use Rattle.std.proofs.Common.{◌≡◌, length, List, Some, sym, ap, ◌∙◌, subst, arith, rules}
 use Rattle.source.specs.declared.node.Node.{Node}
 use Rattle.loader.specs.Live.{Liveness, live_sets}
 use Rattle.loader.proofs.holder.Loader.source.Goals as goal
@@ -11,7 +11,7 @@ invariant_of-result c =
     let nodes = ap length c.nodes.ensures.nodes in
     record {
       few = l.few h e;
-      within = l.within h e;
+      within = omega (arith, l.within h e);
       some = omega (arith, l.some h e, l.long h e, nodes);
       sound = c.nodes.ensures.sound h e;
       words = ap length c.live.ensures.words ∙ (l.words h e ∙ sym (l.long h e)) ∙ sym nodes;
@@ -23,7 +23,7 @@ returns c =
     let h = c.in_ok-heading.heading in
     let e : l.loaded ≡ Some h = sym c.heading.ensures ∙ c.in_ok-heading.was in
     record {
-      heading = e;
+      heading = search rules;
       nodes = c.nodes.ensures.nodes;
       words = c.live.ensures.words;
       live = subst (λ (ns : List Node). Liveness ns (live_sets c.live.result.now)) (sym c.nodes.ensures.nodes) (c.live.ensures.live h e);

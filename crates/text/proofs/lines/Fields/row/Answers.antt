@@ -1,7 +1,6 @@
-use Rattle.std.proofs.Common.{map, ap, ◌∙◌, rules}
-use Rattle.text.specs.Fields.{shape_of, starts}
+use Rattle.std.proofs.Common.{rules}
 use Rattle.text.proofs.Rows.{row_read, row_full}
-use Rattle.text.proofs.lines.Line.fields.Goals as goal
+use Rattle.text.proofs.lines.Fields.row.Goals as goal
 
 pub returns-in_err-ok-clause-few : goal.returns-in_err-ok-clause-few
 returns-in_err-ok-clause-few g c =
@@ -11,5 +10,4 @@ returns-in_err-ok-clause-few g c =
 pub returns : goal.returns
 returns g c =
     let r = row_read _ _ _ c.new-row.ensures c.extend.result c.ok.result c.in_ok-ok.field-0 c.ok.ensures.value c.in_ok-ok.was c.extend.ensures.ran in
-    let of = c.of.ensures in
-    record { few = tt; shapes = r.1 ∙ ap (map shape_of) of.fields; bytes = r.0 ∙ of.fields; starts = r.2 ∙ (λ i. starts (of.start i) (of.fields i)) }
+    record { few = tt; bytes = r.0; shapes = r.1; starts = r.2 }
